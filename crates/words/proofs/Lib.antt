@@ -1,0 +1,3 @@
+-- Case distinctions, and the laws of words in bytes.
+pub mod Cases
+pub mod Laws

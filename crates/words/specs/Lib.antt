@@ -1,0 +1,2 @@
+-- Words of 64 bits in bytes.
+pub mod Words
