@@ -1,0 +1,66 @@
+-- The laws of answers, of a run of checks, and of a search. Assumes nothing.
+use Prim.Native.Nat.{ℕ, zero, suc, _<_}
+use mathlib.Core.Path.{_≡_, refl, sym, ap, _∙_, subst}
+use mathlib.Core.Bool.{Bool, true, false, _||_, true≢false}
+use native.Mathlib.Omega.{arith}
+use Rattle.words.proofs.Cases.{Tri, less, same, more, tri, or-either}
+use Rattle.diagram.specs.Count.{someBelow}
+use Rattle.diagram.specs.Answer.{Answer, value, refusal, andThen, pass, each}
+
+-- a refusal is no value
+pub refused-not : {A : Type 0} {r p : ℕ} {a : A} → refusal r p ≡ value a → ⊥
+refused-not e = let z : _≡_ {A = ℕ} 0 1 = cc in omega arith
+
+pub value-inj : {A : Type 0} {a b : A} → value a ≡ value b → a ≡ b
+value-inj e = cc
+
+-- what yields a value went through its first check
+pub then-value : {B : Type 0} (a : Answer (Unit {0})) (f : Unit {0} → Answer B) {b : B} → andThen a f ≡ value b → (a ≡ pass) × (f tt ≡ value b)
+unfolding andThen
+then-value (value u) f e = (refl, e)
+then-value (refusal r p) f e = absurd (refused-not e)
+
+-- a run of checks passes if each does
+pub each-all : (f : ℕ → Answer (Unit {0})) (m : ℕ) → each f m ≡ pass → (k : ℕ) → k < m → f k ≡ pass
+unfolding each
+each-all f zero e k l = absurd (omega arith)
+each-all f (suc m) e k l =
+    let a = then-value (each f m) (λ _. f m) e in
+    elim (tri k m) [ less i ↦ each-all f m (a .0) k i | same i ↦ rw i (a .1) | more i ↦ absurd (omega arith) ]
+
+-- one more check of a run
+pub each-next : (f : ℕ → Answer (Unit {0})) (m : ℕ) → each f m ≡ pass → each f (suc m) ≡ f m
+unfolding each andThen
+each-next f m e = rw e
+
+pub all-each : (f : ℕ → Answer (Unit {0})) (m : ℕ) → ((k : ℕ) → k < m → f k ≡ pass) → each f m ≡ pass
+unfolding each
+all-each f zero h = refl
+all-each f (suc m) h = each-next f m (all-each f m (λ k l. h k (omega arith))) ∙ h m (omega arith)
+
+-- ... and otherwise it comes to its first refusal
+pub each-refused : (f : ℕ → Answer (Unit {0})) (m k r p : ℕ) → k < m → each f k ≡ pass → f k ≡ refusal r p → each f m ≡ refusal r p
+unfolding each andThen
+each-refused f zero k r p l e q = absurd (omega arith)
+each-refused f (suc m) k r p l e q =
+    elim (tri k m) [
+      | less i ↦ rw (each-refused f m k r p i e q)
+      | same i ↦ subst (λ (j : ℕ). each f (suc j) ≡ refusal r p) i (each-next f k e ∙ q)
+      | more i ↦ absurd (omega arith)
+    ]
+
+-- a search that succeeds, both ways
+pub some-at : (P : ℕ → Bool) (m x : ℕ) → x < m → P x ≡ true → someBelow P m ≡ true
+unfolding someBelow
+some-at P zero x l p = absurd (omega arith)
+some-at P (suc m) x l p =
+    elim (tri x m) [ less i ↦ rw (some-at P m x i p) | same i ↦ or-either (someBelow P m) (subst (λ (j : ℕ). P j ≡ true) i p) | more i ↦ absurd (omega arith) ]
+
+pub some-found : (P : ℕ → Bool) (m : ℕ) → someBelow P m ≡ true → (x : ℕ) × (x < m) × (P x ≡ true)
+unfolding someBelow
+some-found P zero e = absurd (true≢false (sym e))
+some-found P (suc m) e = go (someBelow P m) refl e (λ f. some-found P m f)
+  where
+    go : (b : Bool) → someBelow P m ≡ b → (b || P m) ≡ true → (someBelow P m ≡ true → (x : ℕ) × (x < m) × (P x ≡ true)) → (x : ℕ) × (x < suc m) × (P x ≡ true)
+    go true p q f = let s = f p in (s .0, omega (arith, s .1), s .2)
+    go false p q f = (m, omega arith, q)

@@ -1,0 +1,53 @@
+-- Laws of a number's bits. Assumes nothing.
+use Prim.Native.Nat.{ℕ, zero, suc, _+_, _-_, _*_, _/_, _%_, _^_, _≤_, _<_}
+use mathlib.Core.Path.{_≡_, refl, sym, ap, _∙_, subst}
+use mathlib.Core.Bool.{Bool, true, false}
+use native.Mathlib.Nat.{sub-add-cancel, mod-mod, mod-lt, div-eq-of-lt, add-div-right, add-mod-right, pow-suc, le-of-lt}
+use native.Mathlib.Omega.{arith}
+use lib.Dec.{eqb}
+use lib.Pow.{pow-pos, field, mod-mod-pow, ones-split, high, ones-lt}
+use Rattle.diagram.specs.Meaning.{bit}
+
+-- the bit of weight 2 ^ m, m < H, is one of the low H bits
+digit-mod : (m H x : ℕ) → m < H → x % 2 ^ H / 2 ^ m % 2 ≡ x / 2 ^ m % 2
+digit-mod m H x l =
+    let e : (H - suc m) + 1 + m ≡ H = omega arith in
+    subst (λ (J : ℕ). x % 2 ^ J / 2 ^ m % 2 ≡ x / 2 ^ m % 2) e
+    (rw (field x ((H - suc m) + 1) m) (mod-mod-pow (x / 2 ^ m) (H - suc m) 1))
+
+pub bit-mod : (h H x : ℕ) → 0 < h → h ≤ H → bit h (x % 2 ^ H) ≡ bit h x
+unfolding bit
+bit-mod h H x p l = ap (λ d. eqb d 1) (digit-mod (h - 1) H x (omega arith))
+
+-- x with the bit of weight 2 ^ m set, or clear, and no bit above it
+unfoldable pub withSet : ℕ → ℕ → ℕ
+withSet h x = x % 2 ^ (h - 1) + 2 ^ (h - 1)
+
+unfoldable pub withClear : ℕ → ℕ → ℕ
+withClear h x = x % 2 ^ (h - 1)
+
+pub bit-set : (h x : ℕ) → bit h (withSet h x) ≡ true
+unfolding bit withSet
+bit-set h x = rw (add-div-right (x % 2 ^ (h - 1)) (pow-pos (h - 1)), div-eq-of-lt (mod-lt x (pow-pos (h - 1))))
+
+pub bit-clear : (h x : ℕ) → bit h (withClear h x) ≡ false
+unfolding bit withClear
+bit-clear h x = rw (div-eq-of-lt (mod-lt x (pow-pos (h - 1))))
+
+pub set-mod : (h x : ℕ) → withSet h x % 2 ^ (h - 1) ≡ x % 2 ^ (h - 1)
+unfolding withSet
+set-mod h x = rw (add-mod-right, mod-mod)
+
+pub clear-mod : (h x : ℕ) → withClear h x % 2 ^ (h - 1) ≡ x % 2 ^ (h - 1)
+unfolding withClear
+clear-mod h x = rw mod-mod
+
+-- every bit of 2 ^ n - 1 is set
+pub bit-ones : (h n : ℕ) → 0 < h → h ≤ n → bit h (2 ^ n - 1) ≡ true
+unfolding bit
+bit-ones h n p l =
+    let e : suc (n - h) + (h - 1) ≡ n = omega arith in
+    subst (λ (J : ℕ). eqb ((2 ^ J - 1) / 2 ^ (h - 1) % 2) 1 ≡ true) e (ap (λ d. eqb d 1) (digit (h - 1) (n - h)))
+  where
+    digit : (m j : ℕ) → (2 ^ (suc j + m) - 1) / 2 ^ m % 2 ≡ 1
+    digit m j = rw (ones-split (suc j) m, high (2 ^ suc j - 1) m (ones-lt m)) (omega (arith, pow-pos j))

@@ -1,0 +1,87 @@
+-- How the places of the sheet and the total are computed: node by node, over gaps and flags. Assumes nothing.
+use Prim.Native.Nat.{ℕ, zero, suc, _+_, _-_, _*_, _/_, _%_, _^_, _≤_, _<_}
+use mathlib.Core.Path.{_≡_, refl, sym, ap, ap₂, _∙_, subst}
+use mathlib.Core.Logic.{_⊎_, inl, inr}
+use mathlib.Core.Bool.{Bool, true, false, not, cond}
+use native.Mathlib.Nat.{le-refl, le-of-lt, add-mod-left, mod-eq-of-lt, mod-lt, add-comm, zero-add, zero-mul, one-mul, two-pow-succ, sub-add-cancel}
+use lib.Dec.{eqb, lit<}
+use lib.Pow.{pow-pos, pow-add, mod-pow-add}
+use native.Mathlib.Omega.{arith}
+use Rattle.diagram.specs.Format.{Words, settings, root, height, thenEdge, elseEdge}
+use Rattle.diagram.specs.Meaning.{bit, branch, flip, plain, under, permitted}
+use Rattle.diagram.specs.Count.{indicator, countBelow, place, total}
+use Rattle.diagram.proofs.CountLaws.{count-cong, count-add, count-not, count-blocks, count-gap, count-half}
+use Rattle.diagram.proofs.Bits.{withSet, withClear}
+use Rattle.diagram.specs.Ordered.{Ordered}
+use Rattle.diagram.proofs.Paths.{height-le-settings}
+use Rattle.diagram.proofs.Local.{under-agree, plain-set, plain-clear}
+
+-- c of m, or the m - c others if the flag is set
+unfoldable pub opposite : ℕ → ℕ → ℕ → ℕ
+opposite zero m c = c
+opposite (suc f) m c = m - c
+
+pub count-flip : (f : ℕ) (P : ℕ → Bool) (m : ℕ) → countBelow (λ x. flip f (P x)) m ≡ opposite f m (countBelow P m)
+unfolding flip opposite
+count-flip zero P m = refl
+count-flip (suc f) P m = omega (arith, count-not P m)
+
+-- how many of the 2 ^ H setups below height H edge e permits, from its node's place: the node's count, or its opposite, as often as the gap allows
+unfoldable pub edgeCount : Words → ℕ → ℕ → ℕ
+edgeCount w H e = 2 ^ (H - height w (e / 2)) * opposite (e % 2) (2 ^ height w (e / 2)) (place w (e / 2))
+
+module _ (w : Words) (n N : ℕ) (D : Ordered w n N) where
+  -- below an edge the setups repeat from the node's height on
+  under-period : (e x : ℕ) → e / 2 ≤ N → under w e (2 ^ height w (e / 2) + x) ≡ under w e x
+  under-period e x m =
+      let h = height w (e / 2) in
+      under-agree w n N D e h (2 ^ h + x) x m (le-refl h) (add-mod-left (2 ^ h) x)
+
+  pub count-edge : (e H : ℕ) → e / 2 ≤ N → height w (e / 2) ≤ H → countBelow (under w e) (2 ^ H) ≡ edgeCount w H e
+  unfolding under place edgeCount
+  count-edge e H m q =
+      let h = height w (e / 2) in
+      count-gap (under w e) h H q (λ x. under-period e x m)
+      ∙ ap (λ c. 2 ^ (H - h) * c) (count-flip (e % 2) (plain w (e / 2)) (2 ^ h))
+
+  -- the halves of a node, at the setups below its height
+  else-half : (k x : ℕ) → k < N → x < 2 ^ (height w (suc k) - 1) → plain w (suc k) x ≡ under w (elseEdge w (suc k)) x
+  unfolding withClear
+  else-half k x m l = ap (plain w (suc k)) (sym (mod-eq-of-lt l)) ∙ plain-clear w n N D k x m
+
+  then-half : (k x : ℕ) → k < N → x < 2 ^ (height w (suc k) - 1)
+      → plain w (suc k) (2 ^ (height w (suc k) - 1) + x) ≡ under w (thenEdge w (suc k)) x
+  unfolding withSet
+  then-half k x m l =
+      let b = 2 ^ (height w (suc k) - 1) in
+      ap (plain w (suc k)) (add-comm b x ∙ ap (λ y. y + b) (sym (mod-eq-of-lt l))) ∙ plain-set w n N D k x m
+
+  -- a place is the sum of the counts of its node's two edges
+  pub place-node : (k : ℕ) → k < N
+      → place w (suc k) ≡ countBelow (under w (elseEdge w (suc k))) (2 ^ (height w (suc k) - 1)) + countBelow (under w (thenEdge w (suc k))) (2 ^ (height w (suc k) - 1))
+  unfolding place
+  place-node k m =
+      let h = height w (suc k) in
+      let t = D .tall k m in
+      let s : suc (h - 1) ≡ h = omega arith in
+      ap (λ (g : ℕ). countBelow (plain w (suc k)) (2 ^ g)) (sym s)
+      ∙ count-half (plain w (suc k)) (h - 1)
+      ∙ ap₂ _+_ (count-cong (plain w (suc k)) (under w (elseEdge w (suc k))) (2 ^ (h - 1)) (λ x l. else-half k x m l))
+      (count-cong (λ x. plain w (suc k) (2 ^ (h - 1) + x)) (under w (thenEdge w (suc k))) (2 ^ (h - 1)) (λ x l. then-half k x m l))
+
+  -- the recursion by which the sheet is filled
+  pub place-rec : (k : ℕ) → k < N → place w (suc k) ≡ edgeCount w (height w (suc k) - 1) (elseEdge w (suc k)) + edgeCount w (height w (suc k) - 1) (thenEdge w (suc k))
+  place-rec k m =
+      let a = D .else-node k m in
+      let b = D .else-height k m in
+      let c = D .then-node k m in
+      let d = D .then-height k m in
+      let h = height w (suc k) in
+      place-node k m
+      ∙ ap₂ _+_ (count-edge (elseEdge w (suc k)) (h - 1) (omega arith) (omega arith)) (count-edge (thenEdge w (suc k)) (h - 1) (omega arith) (omega arith))
+
+  -- the total, from the root's place
+  pub total-root : root w / 2 ≤ N → settings w ≡ n → total w ≡ edgeCount w n (root w)
+  unfolding total permitted
+  total-root l s =
+      ap (λ (m : ℕ). countBelow (under w (root w)) (2 ^ m)) s ∙ count-edge (root w) n l (height-le-settings w n N D (root w / 2) l)

@@ -1,0 +1,10 @@
+-- The laws of the definitions.
+pub mod CountLaws
+pub mod Bits
+pub mod Paths
+pub mod Local
+pub mod Counts
+pub mod Unique
+pub mod Canonical
+pub mod AnswerLaws
+pub mod Accept

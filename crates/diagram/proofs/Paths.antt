@@ -1,0 +1,54 @@
+-- One step from a node of an ordered diagram. Assumes nothing.
+use Prim.Native.Nat.{ℕ, zero, suc, _/_, _%_, _≤_, _<_}
+use mathlib.Core.Path.{_≡_, refl, ap}
+use mathlib.Core.Bool.{Bool, true, false, cond}
+use native.Mathlib.Nat.{le-refl}
+use native.Mathlib.Omega.{arith}
+use Rattle.diagram.specs.Format.{Words, height}
+use Rattle.diagram.specs.Meaning.{bit, branch, flip, holds, plain, under}
+use Rattle.diagram.specs.Ordered.{Ordered}
+
+-- a Boolean choice, by its cases
+choose : (P : ℕ → Type 0) (b : Bool) {t e : ℕ} → P t → P e → P (cond b t e)
+choose P true p q = p
+choose P false p q = q
+
+module _ (w : Words) (n N : ℕ) (D : Ordered w n N) where
+  -- the edge taken leads to a smaller node
+  pub branch-node : (k x : ℕ) → k < N → branch w (suc k) x / 2 ≤ k
+  unfolding branch
+  branch-node k x l = choose (λ e. e / 2 ≤ k) (bit (height w (suc k)) x) (D .then-node k l) (D .else-node k l)
+
+  pub branch-height : (k x : ℕ) → k < N → height w (branch w (suc k) x / 2) < height w (suc k)
+  unfolding branch
+  branch-height k x l = choose (λ e. height w (e / 2) < height w (suc k)) (bit (height w (suc k)) x) (D .then-height k l) (D .else-height k l)
+
+  -- as many nodes allowed as the node's number, or more: the same answer
+  pub holds-fuel : (d k x : ℕ) → k ≤ d → k ≤ N → holds w d k x ≡ plain w k x
+  unfolding plain holds
+  holds-fuel d k x l m = both d k k l (le-refl k) m
+    where
+      both : (d d′ k : ℕ) → k ≤ d → k ≤ d′ → k ≤ N → holds w d k x ≡ holds w d′ k x
+      both zero zero zero p q r = refl
+      both zero (suc d′) zero p q r = refl
+      both (suc d) zero zero p q r = refl
+      both (suc d) (suc d′) zero p q r = refl
+      both zero d′ (suc k) p q r = absurd (omega arith)
+      both (suc d) zero (suc k) p q r = absurd (omega arith)
+      both (suc d) (suc d′) (suc k) p q r =
+          let e = branch w (suc k) x in
+          let s : e / 2 ≤ k = branch-node k x r in
+          ap (flip (e % 2)) (both d d′ (e / 2) (omega arith) (omega arith) (omega arith))
+
+  -- one step from a node
+  pub plain-step : (k x : ℕ) → k < N → plain w (suc k) x ≡ under w (branch w (suc k) x) x
+  unfolding plain holds under
+  plain-step k x l =
+      let s : branch w (suc k) x / 2 ≤ k = branch-node k x l in
+      ap (flip (branch w (suc k) x % 2)) (holds-fuel k (branch w (suc k) x / 2) x s (omega arith))
+
+  -- no node is taller than the settings
+  pub height-le-settings : (k : ℕ) → k ≤ N → height w k ≤ n
+  unfolding height
+  height-le-settings zero l = omega arith
+  height-le-settings (suc k) l = D .low k l

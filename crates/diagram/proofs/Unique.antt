@@ -1,0 +1,145 @@
+-- Inside one proper diagram two edges with the same meaning are the same edge. Assumes nothing.
+use Prim.Native.Nat.{ℕ, zero, suc, _+_, _-_, _*_, _/_, _%_, _^_, _≤_, _<_}
+use mathlib.Core.Path.{_≡_, refl, sym, ap, ap₂, _∙_, subst}
+use mathlib.Core.Bool.{Bool, true, false, not, true≢false, Bool·not-not}
+use native.Mathlib.Nat.{le-refl, mod-lt, div-div-eq-div-mul}
+use native.Mathlib.Omega.{arith}
+use Rattle.diagram.specs.Format.{highField, middleField, lowField, Words, settings, nodes, root, height, thenEdge, elseEdge}
+use Rattle.diagram.specs.Meaning.{flip, holds, plain, under}
+use Rattle.diagram.proofs.Bits.{withSet, withClear, set-mod, clear-mod}
+use Rattle.diagram.specs.Ordered.{Reduced}
+use Rattle.diagram.proofs.Local.{plain-mod, plain-set, plain-clear, plain-ones}
+use Rattle.words.proofs.Cases.{Tri, less, same, more, tri}
+
+-- a word is its fields
+pub word-fields : (v : ℕ) → v ≡ highField v * 2 ^ 58 + middleField v * 2 ^ 29 + lowField v
+unfolding highField middleField lowField
+word-fields v = omega (arith, div-div-eq-div-mul v (2 ^ 29) (2 ^ 29))
+
+-- a record is its height and its edges
+pub record-fields : (w : Words) (j : ℕ) (w′ : Words) (k : ℕ) → height w (suc j) ≡ height w′ (suc k) → thenEdge w (suc j) ≡ thenEdge w′ (suc k)
+    → elseEdge w (suc j) ≡ elseEdge w′ (suc k) → w (suc j) ≡ w′ (suc k)
+unfolding height thenEdge elseEdge
+record-fields w j w′ k p q r =
+    word-fields (w (suc j)) ∙ ap₂ _+_ (ap₂ _+_ (ap (λ a. a * 2 ^ 58) p) (ap (λ a. a * 2 ^ 29) q)) r ∙ sym (word-fields (w′ (suc k)))
+
+-- a header is its three fields
+pub header-fields : (w w′ : Words) → settings w ≡ settings w′ → nodes w ≡ nodes w′ → root w ≡ root w′ → w 0 ≡ w′ 0
+unfolding settings nodes root
+header-fields w w′ p q r =
+    word-fields (w 0) ∙ ap₂ _+_ (ap₂ _+_ (ap (λ a. a * 2 ^ 58) p) (ap (λ a. a * 2 ^ 29) q)) r ∙ sym (word-fields (w′ 0))
+
+-- two flags that turn `true` alike are equal
+flip-true : (f g : ℕ) → f < 2 → g < 2 → flip f true ≡ flip g true → f ≡ g
+unfolding flip
+flip-true zero zero a b e = refl
+flip-true zero (suc g) a b e = absurd (true≢false e)
+flip-true (suc f) zero a b e = absurd (true≢false (sym e))
+flip-true (suc f) (suc g) a b e = omega arith
+
+flip-inj : (f : ℕ) (a b : Bool) → flip f a ≡ flip f b → a ≡ b
+unfolding flip
+flip-inj zero a b e = e
+flip-inj (suc f) a b e = sym (Bool·not-not a) ∙ ap not e ∙ Bool·not-not b
+
+-- edges of w to nodes up to d that mean the same are the same
+abbrev pub Unique : Words → ℕ → Type 0
+Unique w d = (e e′ : ℕ) → e / 2 ≤ d → e′ / 2 ≤ d → ((x : ℕ) → under w e x ≡ under w e′ x) → e ≡ e′
+
+-- two diagrams over the same settings
+module _ (w w′ : Words) (n N N′ : ℕ) (D : Reduced w n N) (D′ : Reduced w′ n N′) where
+  -- edges that mean the same have the same flag: the setup with every setting on shows it
+  pub same-flag : (e e′ : ℕ) → e / 2 ≤ N → e′ / 2 ≤ N′ → ((x : ℕ) → under w e x ≡ under w′ e′ x) → e % 2 ≡ e′ % 2
+  unfolding under
+  same-flag e e′ l l′ s =
+      flip-true (e % 2) (e′ % 2) (omega arith) (omega arith)
+      (ap (flip (e % 2)) (sym (plain-ones w n N D (e / 2) l)) ∙ s (2 ^ n - 1) ∙ ap (flip (e′ % 2)) (plain-ones w′ n N′ D′ (e′ / 2) l′))
+
+  -- ... and lead to nodes that mean the same
+  pub same-node : (e e′ : ℕ) → e / 2 ≤ N → e′ / 2 ≤ N′ → ((x : ℕ) → under w e x ≡ under w′ e′ x) → (x : ℕ) → plain w (e / 2) x ≡ plain w′ (e′ / 2) x
+  unfolding under
+  same-node e e′ l l′ s x =
+      flip-inj (e % 2) (plain w (e / 2) x) (plain w′ (e′ / 2) x)
+      (s x ∙ ap (λ f. flip f (plain w′ (e′ / 2) x)) (sym (same-flag e e′ l l′ s)))
+
+  -- a node is not taller than one that means the same: its two edges would mean the same
+  pub not-taller : (k b : ℕ) → k < N → b ≤ N′ → Unique w k → ((x : ℕ) → plain w (suc k) x ≡ plain w′ b x) → height w (suc k) ≤ height w′ b
+  not-taller k b l l′ u s = elim (tri (height w′ b) (height w (suc k))) [ less q ↦ absurd (D .differ k l (equal q)) | same q ↦ omega arith | more q ↦ omega arith ]
+    where
+      h : ℕ
+      h = height w (suc k)
+
+      equal : height w′ b < h → thenEdge w (suc k) ≡ elseEdge w (suc k)
+      equal q =
+          u (thenEdge w (suc k)) (elseEdge w (suc k)) (D .ordered .then-node k l) (D .ordered .else-node k l) λ x.
+          sym (plain-set w n N (D .ordered) k x l)
+          ∙ s (withSet h x)
+          ∙ sym (plain-mod w′ n N′ (D′ .ordered) b (h - 1) (withSet h x) l′ (omega arith))
+          ∙ ap (plain w′ b) (set-mod h x ∙ sym (clear-mod h x))
+          ∙ plain-mod w′ n N′ (D′ .ordered) b (h - 1) (withClear h x) l′ (omega arith)
+          ∙ sym (s (withClear h x))
+          ∙ plain-clear w n N (D .ordered) k x l
+
+  -- nodes of one height that mean the same have edges that mean the same
+  pub same-then : (j k : ℕ) → j < N → k < N′ → height w (suc j) ≡ height w′ (suc k) → ((x : ℕ) → plain w (suc j) x ≡ plain w′ (suc k) x)
+      → (x : ℕ) → under w (thenEdge w (suc j)) x ≡ under w′ (thenEdge w′ (suc k)) x
+  same-then j k l l′ q s x =
+      sym (plain-set w n N (D .ordered) j x l) ∙ s (withSet (height w (suc j)) x)
+      ∙ ap (λ h. plain w′ (suc k) (withSet h x)) q ∙ plain-set w′ n N′ (D′ .ordered) k x l′
+
+  pub same-else : (j k : ℕ) → j < N → k < N′ → height w (suc j) ≡ height w′ (suc k) → ((x : ℕ) → plain w (suc j) x ≡ plain w′ (suc k) x)
+      → (x : ℕ) → under w (elseEdge w (suc j)) x ≡ under w′ (elseEdge w′ (suc k)) x
+  same-else j k l l′ q s x =
+      sym (plain-clear w n N (D .ordered) j x l) ∙ s (withClear (height w (suc j)) x)
+      ∙ ap (λ h. plain w′ (suc k) (withClear h x)) q ∙ plain-clear w′ n N′ (D′ .ordered) k x l′
+
+-- one diagram
+module _ (w : Words) (n N : ℕ) (D : Reduced w n N) where
+  -- records ascend
+  pub ascending : (j k : ℕ) → j < k → k < N → w (suc j) < w (suc k)
+  ascending j zero l m = absurd (omega arith)
+  ascending j (suc k) l m =
+      let a = D .ascends k m in
+      elim (tri j k) [ less q ↦ let b = ascending j k q (omega arith) in omega arith | same q ↦ rw q a | more q ↦ absurd (omega arith) ]
+
+  -- so equal records are one record
+  pub record-inj : (j k : ℕ) → j < N → k < N → w (suc j) ≡ w (suc k) → j ≡ k
+  record-inj j k l m e =
+      elim (tri j k) [ less q ↦ omega (arith, ascending j k q m) | same q ↦ q | more q ↦ omega (arith, ascending k j q l) ]
+
+  -- nodes that mean the same are one node, where edges to lower nodes are known to
+  pub node-unique : (d a b : ℕ) → a ≤ suc d → b ≤ suc d → suc d ≤ N → Unique w d → ((x : ℕ) → plain w a x ≡ plain w b x) → a ≡ b
+  unfolding height
+  node-unique d zero zero l m t u s = refl
+  node-unique d (suc a) zero l m t u s =
+      let p = D .ordered .tall a (omega arith) in
+      let q : height w (suc a) ≤ height w 0 = not-taller w w n N N D D a 0 (omega arith) (omega arith) (λ e e′ x y. u e e′ (omega arith) (omega arith)) s in
+      omega arith
+  node-unique d zero (suc b) l m t u s =
+      let p = D .ordered .tall b (omega arith) in
+      let q : height w (suc b) ≤ height w 0 = not-taller w w n N N D D b 0 (omega arith) (omega arith) (λ e e′ x y. u e e′ (omega arith) (omega arith)) (λ x. sym (s x)) in
+      omega arith
+  node-unique d (suc a) (suc b) l m t u s =
+      let i : a < N = omega arith in
+      let j : b < N = omega arith in
+      let p = not-taller w w n N N D D a (suc b) i j (λ e e′ x y. u e e′ (omega arith) (omega arith)) s in
+      let q = not-taller w w n N N D D b (suc a) j i (λ e e′ x y. u e e′ (omega arith) (omega arith)) (λ x. sym (s x)) in
+      let h : height w (suc a) ≡ height w (suc b) = omega arith in
+      let c = D .ordered .then-node a i in
+      let c′ = D .ordered .then-node b j in
+      let f = D .ordered .else-node a i in
+      let f′ = D .ordered .else-node b j in
+      ap suc (record-inj a b i j (record-fields w a w b h
+      (u (thenEdge w (suc a)) (thenEdge w (suc b)) (omega arith) (omega arith) (same-then w w n N N D D a b i j h s))
+      (u (elseEdge w (suc a)) (elseEdge w (suc b)) (omega arith) (omega arith) (same-else w w n N N D D a b i j h s))))
+
+  -- an edge is its node and its flag
+  edge-parts : (e e′ : ℕ) → e / 2 ≡ e′ / 2 → e % 2 ≡ e′ % 2 → e ≡ e′
+  edge-parts e e′ p q = omega arith
+
+  -- edges that mean the same are the same
+  pub unique : (d : ℕ) → d ≤ N → Unique w d
+  unique zero l e e′ a b s = edge-parts e e′ (omega arith) (same-flag w w n N N D D e e′ (omega arith) (omega arith) s)
+  unique (suc d) l e e′ a b s =
+      edge-parts e e′ (node-unique d (e / 2) (e′ / 2) a b l (unique d (omega arith)) (same-node w w n N N D D e e′ (omega arith) (omega arith) s))
+      (same-flag w w n N N D D e e′ (omega arith) (omega arith) s)

@@ -1,0 +1,52 @@
+//! The calls that are compared, and what a call leaves behind.
+
+use std::fmt;
+
+#[derive(Clone, Copy, Debug, PartialEq, Eq)]
+pub enum Call {
+    Check,
+    Count,
+    Test { setup: u64 },
+}
+
+/// A refusal: its number and its place.
+#[derive(Clone, Copy, Debug, PartialEq, Eq)]
+pub struct Refusal {
+    pub number: u64,
+    pub place: u64,
+}
+
+/// One 64-bit answer: the result, or 2^63 + 2^32 * refusal + place.
+#[derive(Clone, Copy, PartialEq, Eq)]
+pub struct Answer(pub u64);
+
+const FIRST_REFUSAL: u64 = (1 << 63) + (1 << 32);
+
+impl Answer {
+    pub fn refused(refusal: Refusal) -> Answer {
+        Answer((1 << 63) + (refusal.number << 32) + refusal.place)
+    }
+
+    /// The refusal packed into the answer, if it is one. The count 2^63 is none, because a
+    /// refusal number is at least 1.
+    pub fn refusal(self) -> Option<Refusal> {
+        let rest = self.0 & !(1 << 63);
+        (self.0 >= FIRST_REFUSAL).then_some(Refusal { number: rest >> 32, place: rest & 0xFFFF_FFFF })
+    }
+}
+
+impl fmt::Debug for Answer {
+    fn fmt(&self, f: &mut fmt::Formatter) -> fmt::Result {
+        match self.refusal() {
+            Some(refusal) => write!(f, "refusal {} at {}", refusal.number, refusal.place),
+            None => write!(f, "{}", self.0),
+        }
+    }
+}
+
+/// The answer of a call and the whole sheet afterwards.
+#[derive(Clone, Debug, PartialEq, Eq)]
+pub struct Outcome {
+    pub answer: Answer,
+    pub sheet: Vec<u8>,
+}

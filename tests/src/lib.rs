@@ -1,0 +1,21 @@
+//! Outside tests of the setup book: the library, called through its C functions, is compared with
+//! an implementation of the paper that shares no code with it.
+//!
+//! - `call`: the calls that are compared, and what a call leaves behind
+//! - `paper`: the paper, straight
+//! - `library`: the library under test, with guarded memory
+//! - `tables`: accepted tables; `damage`: tables with faults; `sheets`: work sheets
+//! - `layout`: words, bytes and the fields of a word
+//! - `comparison`: runs a call on both sides; `tally`: which cases have been met
+//! - `rng`: pseudo-random numbers
+
+pub mod call;
+pub mod comparison;
+pub mod damage;
+pub mod layout;
+pub mod library;
+pub mod paper;
+pub mod rng;
+pub mod sheets;
+pub mod tables;
+pub mod tally;

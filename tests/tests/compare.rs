@@ -1,0 +1,246 @@
+//! The library against the paper: answers and every byte of the sheet, over tables of every kind.
+
+use setupbook_tests::call::Call;
+use setupbook_tests::comparison::{report, Comparison};
+use setupbook_tests::damage;
+use setupbook_tests::layout::{bytes_of, fields, word};
+use setupbook_tests::rng::Rng;
+use setupbook_tests::sheets;
+use setupbook_tests::tables::{self, TruthTable};
+
+#[test]
+fn library_agrees_with_the_paper() {
+    let seed = Rng::seed_of_run();
+    println!("seed {seed}");
+    let mut comparison = Comparison::new(seed);
+    let groups: [(&str, fn(&mut Comparison)); 15] = [
+        ("all functions of up to 3 settings", all_small_functions),
+        ("random functions of 4 to 8 settings", random_functions),
+        ("tables without records", constants),
+        ("one record a height", chains),
+        ("random accepted tables", accepted),
+        ("sheets of every length", every_sheet),
+        ("records that nothing names", unnamed),
+        ("one aimed fault", one_fault),
+        ("several aimed faults", several_faults),
+        ("several faults at one record", faulty_record),
+        ("turned bits", turned_bits),
+        ("small random fields", small_fields),
+        ("random words and bytes", random_bytes),
+        ("every length of a table", every_length),
+        ("up to 65,535 records and above", wide),
+    ];
+    for (name, group) in groups {
+        let (before, start) = (comparison.tally.cases, std::time::Instant::now());
+        group(&mut comparison);
+        println!("{name}: {} cases, {} ms", comparison.tally.cases - before, start.elapsed().as_millis());
+    }
+    report(&format!("seed {seed}: {}", comparison.tally.summary()));
+    comparison.tally.assert_every_answer();
+    comparison.tally.assert_every_pair();
+    assert!(comparison.tally.cases >= 20_000);
+}
+
+/// Compares a table made from a truth table, and its answers with the truth table itself.
+fn compare_function(comparison: &mut Comparison, function: &TruthTable) {
+    let words = tables::from_truth_table(function);
+    let table = bytes_of(&words);
+    let (n, node_count, _) = fields(words[0]);
+    assert_eq!(comparison.compare_served(Call::Check, &table).0, (n << 32) + node_count);
+    let permitted = function.iter().filter(|permitted| **permitted).count() as u64;
+    assert_eq!(comparison.compare_served(Call::Count, &table).0, permitted);
+    for (setup, permitted) in function.iter().enumerate() {
+        let answer = comparison.compare_served(Call::Test { setup: setup as u64 }, &table);
+        assert_eq!(answer.0, u64::from(*permitted));
+    }
+    comparison.compare_all(&table);
+}
+
+fn all_small_functions(comparison: &mut Comparison) {
+    for n in 0..=3 {
+        for number in 0..1u64 << (1 << n) {
+            compare_function(comparison, &tables::numbered_truth_table(n, number));
+        }
+    }
+}
+
+fn random_functions(comparison: &mut Comparison) {
+    for n in 4..=8 {
+        for _ in 0..30 {
+            let function = tables::random_truth_table(&mut comparison.rng, n);
+            compare_function(comparison, &function);
+        }
+    }
+}
+
+fn constants(comparison: &mut Comparison) {
+    for n in 0..=63 {
+        for permitted in [false, true] {
+            for _ in 0..3 {
+                comparison.compare_words(&tables::constant(n, permitted));
+            }
+        }
+    }
+}
+
+fn chains(comparison: &mut Comparison) {
+    for n in 1..=63 {
+        for (only_one, root_flag) in [(false, 0), (false, 1), (true, 0), (true, 1)] {
+            let table = bytes_of(&tables::chain(n, only_one, root_flag));
+            let few = if only_one { 1 } else { (1 << n) - 1 };
+            let count = if root_flag == 1 { (1 << n) - few } else { few };
+            assert_eq!(comparison.compare_served(Call::Count, &table).0, count);
+            comparison.compare_all(&table);
+        }
+    }
+}
+
+/// A random accepted table; many are small, some have hundreds of records.
+fn some_table(rng: &mut Rng) -> Vec<u64> {
+    let n = if rng.chance(50) { rng.between(1, 12) } else { rng.between(1, 63) };
+    let most = rng.pick(&[3, 6, 12, 40, 400]);
+    tables::random_accepted(rng, n, most)
+}
+
+fn accepted(comparison: &mut Comparison) {
+    for _ in 0..1500 {
+        let words = some_table(&mut comparison.rng);
+        let table = bytes_of(&words);
+        let answer = comparison.compare_served(Call::Check, &table);
+        assert!(answer.refusal().is_none(), "a table made to be accepted: {answer:?}");
+        comparison.compare_all(&table);
+    }
+}
+
+fn every_sheet(comparison: &mut Comparison) {
+    for round in 0..60 {
+        let mut words = some_table(&mut comparison.rng);
+        if round % 3 == 2 {
+            let refusal = comparison.rng.between(3, 9);
+            damage::aim(&mut comparison.rng, &mut words, refusal);
+        }
+        let table = bytes_of(&words);
+        let (n, node_count, _) = fields(words[0]);
+        for len in sheets::border_lengths(node_count) {
+            for content in [vec![0; len], vec![0xFF; len], comparison.rng.bytes(len)] {
+                let setup = comparison.rng.below(1 << n);
+                for call in [Call::Check, Call::Count, Call::Test { setup }, Call::Test { setup: 1 << n }] {
+                    comparison.compare(call, &table, &content);
+                }
+            }
+        }
+    }
+}
+
+fn unnamed(comparison: &mut Comparison) {
+    for _ in 0..600 {
+        let rng = &mut comparison.rng;
+        let n = rng.between(2, 63);
+        let most = rng.pick(&[4, 8, 30, 200]);
+        let plan = tables::random_plan(rng, n, most);
+        let words = tables::from_plan(rng, n, &plan, false);
+        comparison.compare_words(&words);
+    }
+}
+
+fn one_fault(comparison: &mut Comparison) {
+    for refusal in 1..=9 {
+        for _ in 0..250 {
+            let mut words = some_table(&mut comparison.rng);
+            damage::aim(&mut comparison.rng, &mut words, refusal);
+            comparison.compare_words(&words);
+        }
+    }
+}
+
+fn several_faults(comparison: &mut Comparison) {
+    for _ in 0..2000 {
+        let rng = &mut comparison.rng;
+        let mut words = some_table(rng);
+        for _ in 0..rng.between(2, 4) {
+            // Faults of the records more often than those of the header, which hide them.
+            let refusal = if rng.chance(85) { rng.between(4, 9) } else { rng.between(1, 3) };
+            damage::aim(rng, &mut words, refusal);
+        }
+        let table = damage::damaged_bytes(rng, &words);
+        comparison.compare_all(&table);
+    }
+}
+
+fn faulty_record(comparison: &mut Comparison) {
+    for set in 1..32u64 {
+        let rules: Vec<u64> = (4..=8).filter(|rule| (set >> (rule - 4)) & 1 == 1).collect();
+        for _ in 0..30 {
+            let mut words = some_table(&mut comparison.rng);
+            damage::break_last_record(&mut comparison.rng, &mut words, &rules);
+            comparison.compare_words(&words);
+        }
+    }
+}
+
+fn turned_bits(comparison: &mut Comparison) {
+    for _ in 0..1500 {
+        let mut words = some_table(&mut comparison.rng);
+        damage::flip_bits(&mut comparison.rng, &mut words);
+        comparison.compare_words(&words);
+    }
+}
+
+fn small_fields(comparison: &mut Comparison) {
+    for _ in 0..4000 {
+        let words = damage::small_fields(&mut comparison.rng);
+        comparison.compare_words(&words);
+    }
+}
+
+fn random_bytes(comparison: &mut Comparison) {
+    for _ in 0..1000 {
+        let words = damage::random_words(&mut comparison.rng);
+        let table = damage::damaged_bytes(&mut comparison.rng, &words);
+        comparison.compare_all(&table);
+        let len = comparison.rng.index(40);
+        let table = comparison.rng.bytes(len);
+        comparison.compare_all(&table);
+    }
+}
+
+fn every_length(comparison: &mut Comparison) {
+    for _ in 0..8 {
+        let words = tables::random_accepted(&mut comparison.rng, 9, 6);
+        let mut table = bytes_of(&words);
+        table.extend(comparison.rng.bytes(17));
+        for len in 0..=table.len() {
+            comparison.compare_all(&table[..len]);
+        }
+    }
+}
+
+fn wide(comparison: &mut Comparison) {
+    for (n, node_count, widest) in [(20, 65_535, 40_000), (30, 65_535, 5_000), (63, 65_535, 2_000), (63, 30_000, 1_000)] {
+        let plan = tables::wide_plan(n, node_count, widest);
+        let words = tables::from_plan(&mut comparison.rng, n, &plan, true);
+        assert_eq!(words.len(), node_count + 1);
+        let table = bytes_of(&words);
+        let answer = comparison.compare_served(Call::Check, &table);
+        assert_eq!(answer.0, (n << 32) + node_count as u64);
+        comparison.compare_all(&table);
+        let short = vec![0xFF; 8 * (node_count + 1) - 1];
+        comparison.compare(Call::Count, &table, &short);
+
+        // A fault in the last records, after all others have passed.
+        for refusal in 4..=9 {
+            let mut words = words.clone();
+            let (last, rng) = (words.len() - 1, &mut comparison.rng);
+            match refusal {
+                9 => damage::aim(rng, &mut words, 9),
+                _ => damage::break_last_record(rng, &mut words[..=last], &[refusal]),
+            }
+            comparison.compare_served(Call::Check, &bytes_of(&words));
+        }
+    }
+    // One record too many, at the length that fits.
+    let plan = tables::wide_plan(40, 65_536, 5_000);
+    let words = tables::from_plan(&mut comparison.rng, 40, &plan, true);
+    assert_eq!(words[0], word(40, 65_536, fields(words[0]).2));
+    comparison.compare_words(&words);
+}
