@@ -8,3 +8,4 @@ pub mod Unique
 pub mod Canonical
 pub mod AnswerLaws
 pub mod Accept
+pub mod Fields

@@ -5,3 +5,4 @@ pub mod Count
 pub mod Answer
 pub mod Rules
 pub mod Ordered
+pub mod Reading

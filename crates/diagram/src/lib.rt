@@ -1,1 +1,108 @@
+// Nodes, edges and setups of a table, and the reading of its header and records.
+ghost use mathlib.Core.Path.{_≡_};
+ghost use Prim.Native.Nat.{_+_, _*_, _/_, _%_, _≤_, _<_, _^_};
+ghost use lib.Dec.{eqb};
+ghost use lib.ListN.{length};
+ghost use Rattle.words.specs.Words.{wordAt};
+ghost use Rattle.diagram.specs.Format.{height};
+ghost use Rattle.diagram.specs.Count.{indicator};
+ghost use Rattle.diagram.specs.Reading.{IsHeader, IsRecord};
+
+// A node's number. Node 0 is the sink.
 pub struct Node(pub usize);
+
+// A setup: an assignment of the settings, the first one the most significant bit.
+pub struct Setup(pub u64);
+
+// How many permitted setups are smaller.
+pub struct Rank(pub u64);
+
+// An edge to a node, plain or complemented by its flag: 2 × node + flag.
+pub struct Edge {
+    pub value: u64,
+}
+
+impl Edge {
+    pub const ALWAYS: Self = Self { value: 0 };
+
+    pub const NEVER: Self = Self { value: 1 };
+
+    pub fn new(node: Node, flagged: bool) -> Self
+        requires { ⌜ node .0 < 2 ^ 28 ⌝ }
+        ensures { λ r. ⌜ r .value ≡ 2 * node .0 + indicator flagged ⌝ }
+    {
+        let plain = 2 * (node.0 as u64);
+        if flagged {
+            return Edge { value: plain + 1 };
+        }
+        Edge { value: plain }
+    }
+
+    pub fn node(self) -> Node
+        ensures { λ r. ⌜ r .0 ≡ self .value / 2 ⌝ }
+    {
+        Node((self.value / 2) as usize)
+    }
+
+    pub fn flagged(self) -> bool
+        ensures { λ r. ⌜ r ≡ eqb (self .value % 2) 1 ⌝ }
+    {
+        self.value % 2 == 1
+    }
+}
+
+// Word 0: n settings, N nodes, and the root edge.
+pub struct Header {
+    pub settings: u64,
+    pub nodes: usize,
+    pub root: Edge,
+}
+
+// Word k: the height of node k, its then-edge (high) and its else-edge (low).
+pub struct Record {
+    pub height: u64,
+    pub high: Edge,
+    pub low: Edge,
+}
+
+pub fn header_of(table: &[u8]) -> Header
+    requires { ⌜ 8 ≤ length (now table) ⌝ }
+    ensures { λ r. ⌜ IsHeader (wordAt (now (table .entry))) (r .settings) (r .nodes) (r .root .value) ⌝ }
+{
+    let word = words::word_at(table, 0);
+    Header {
+        settings: word / 288230376151711744,
+        nodes: (word / 536870912 % 536870912) as usize,
+        root: Edge {
+            value: word % 536870912,
+        },
+    }
+}
+
+pub fn record_at(table: &[u8], k: Node) -> Record
+    requires { ⌜ (0 < k .0) × (8 * k .0 + 8 ≤ length (now table)) ⌝ }
+    ensures { λ r. ⌜ IsRecord (wordAt (now (table .entry))) (k .0) (r .height) (r .high .value) (r .low .value) ⌝ }
+{
+    let word = words::word_at(table, k.0);
+    Record {
+        height: word / 288230376151711744,
+        high: Edge {
+            value: word / 536870912 % 536870912,
+        },
+        low: Edge {
+            value: word % 536870912,
+        },
+    }
+}
+
+// The height of node k, from the first byte of its record.
+pub fn height_at(table: &[u8], k: Node) -> u64
+    requires { ⌜ 8 * k .0 + 8 ≤ length (now table) ⌝ }
+    ensures { λ r. ⌜ (r ≡ height (wordAt (now (table .entry))) (k .0)) × (r ≤ 63) ⌝ }
+{
+    let i = k.0;
+    if i == 0 {
+        return 0;
+    }
+    (table[8 * i] / 4) as u64
+}

@@ -1,0 +1,58 @@
+-- The fields of a word, as the code reads them. Assumes nothing.
+use Prim.Native.Nat.{ℕ, zero, suc, _+_, _*_, _/_, _%_, _<_, _≤_}
+use mathlib.Core.Path.{_≡_, refl, sym, ap, _∙_}
+use mathlib.Core.List.{List}
+use native.Mathlib.Omega.{arith}
+use native.Mathlib.Nat.{add-zero}
+use lib.ListN.{getD}
+use Rattle.words.specs.Words.{beAt, wordAt}
+use Rattle.diagram.specs.Format.{Words, highField, middleField, lowField, settings, nodes, root, height, thenEdge, elseEdge}
+use Rattle.diagram.specs.Reading.{IsHeader, IsRecord}
+
+-- the height of a node that is not the sink
+pub height-node : (w : Words) (k : ℕ) → 0 < k → height w k ≡ w k / 288230376151711744
+unfolding height highField
+height-node w zero l = absurd (omega arith)
+height-node w (suc k) l = refl
+
+pub height-sink : (w : Words) (k : ℕ) → k ≡ 0 → height w k ≡ 0
+unfolding height
+height-sink w k e = rw e
+
+pub header-is : (w : Words) (v : ℕ) → v ≡ w 0 → v < 18446744073709551616 → IsHeader w (v / 288230376151711744) (v / 536870912 % 536870912) (v % 536870912)
+unfolding settings nodes root highField middleField lowField
+header-is w v e l = record {
+  settings-is = ap (λ (u : ℕ). u / 288230376151711744) e;
+  nodes-is = ap (λ (u : ℕ). u / 536870912 % 536870912) e;
+  root-is = ap (λ (u : ℕ). u % 536870912) e;
+  few-settings = omega arith;
+}
+
+pub record-is : (w : Words) (k v : ℕ) → 0 < k → v ≡ w k → v < 18446744073709551616 → IsRecord w k (v / 288230376151711744) (v / 536870912 % 536870912) (v % 536870912)
+unfolding thenEdge elseEdge middleField lowField
+record-is w k v p e l = record {
+  height-is = ap (λ (u : ℕ). u / 288230376151711744) e ∙ sym (height-node w k p);
+  then-is = ap (λ (u : ℕ). u / 536870912 % 536870912) e;
+  else-is = ap (λ (u : ℕ). u % 536870912) e;
+  low = omega arith;
+  then-fits = omega arith;
+  else-fits = omega arith;
+}
+
+-- the top six bits of a word are those of its first byte
+top-byte : (a r : ℕ) → r < 72057594037927936 → (a * 72057594037927936 + r) / 288230376151711744 ≡ a / 4
+top-byte a r l = omega arith
+
+rest-fits : (b c d e f g h : ℕ) → b < 256 → c < 256 → d < 256 → e < 256 → f < 256 → g < 256 → h < 256
+    → b * 281474976710656 + c * 1099511627776 + d * 4294967296 + e * 16777216 + f * 65536 + g * 256 + h < 72057594037927936
+rest-fits b c d e f g h p q r s t u v = omega arith
+
+pub height-byte : (l : List ℕ) (k : ℕ) → 0 < k → ((i : ℕ) → getD l i 0 < 256) → getD l (8 * k) 0 / 4 ≡ height (wordAt l) k
+unfolding wordAt beAt
+height-byte l k p f =
+    let at : ℕ → ℕ = λ i. getD l (8 * k + i) 0 in
+    let e : wordAt l k ≡ getD l (8 * k) 0 * 72057594037927936
+        + (at 1 * 281474976710656 + at 2 * 1099511627776 + at 3 * 4294967296 + at 4 * 16777216 + at 5 * 65536 + at 6 * 256 + at 7) =
+    simp add-zero (omega arith) in
+    sym (height-node (wordAt l) k p ∙ ap (λ (v : ℕ). v / 288230376151711744) e
+    ∙ top-byte (getD l (8 * k) 0) _ (rest-fits (at 1) (at 2) (at 3) (at 4) (at 5) (at 6) (at 7) (f (8 * k + 1)) (f (8 * k + 2)) (f (8 * k + 3)) (f (8 * k + 4)) (f (8 * k + 5)) (f (8 * k + 6)) (f (8 * k + 7))))

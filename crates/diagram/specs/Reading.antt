@@ -1,0 +1,30 @@
+-- What the functions that read a table answer, and what they need: for inner contracts only. Assumes nothing.
+use Prim.Native.Nat.{ℕ, _+_, _*_, _≤_, _<_}
+use mathlib.Core.Path.{_≡_}
+use mathlib.Core.List.{List}
+use lib.ListN.{length}
+use Rattle.diagram.specs.Format.{Words, settings, nodes, root, height, thenEdge, elseEdge}
+use Rattle.diagram.specs.Ordered.{Holds}
+
+-- the header's fields
+pub record IsHeader (w : Words) (n N e : ℕ) : Type 0 where
+  pub settings-is : n ≡ settings w
+  pub nodes-is : N ≡ nodes w
+  pub root-is : e ≡ root w
+  pub few-settings : n ≤ 63
+
+-- the fields of record k
+pub record IsRecord (w : Words) (k h t e : ℕ) : Type 0 where
+  pub height-is : h ≡ height w k
+  pub then-is : t ≡ thenEdge w k
+  pub else-is : e ≡ elseEdge w k
+  pub low : h ≤ 63
+  pub then-fits : t < 536870912
+  pub else-fits : e < 536870912
+
+-- node k lies in an ordered diagram that the bytes hold
+pub record Within (bytes : List ℕ) (k : ℕ) : Type 0 where
+  pub settings : ℕ
+  pub nodes : ℕ
+  pub holds : Holds bytes settings nodes
+  pub inside : k ≤ nodes
