@@ -13,7 +13,10 @@ fn main() {
     println!("cargo::rerun-if-env-changed=SETUPBOOK_ARCHIVES");
     println!("cargo::rerun-if-changed={}", archive.display());
     if !archive.is_file() {
-        panic!("no archive {}: build it first or set SETUPBOOK_ARCHIVES", archive.display());
+        panic!(
+            "no archive {}: build it first or set SETUPBOOK_ARCHIVES",
+            archive.display()
+        );
     }
     println!("cargo::rustc-link-search=native={}", folder.display());
     println!("cargo::rustc-link-lib=static=harness");

@@ -2,6 +2,8 @@
 
 use std::fmt;
 
+use crate::layout::words_of;
+
 #[derive(Clone, Copy, Debug, PartialEq, Eq)]
 pub enum Call {
     Check,
@@ -31,7 +33,10 @@ impl Answer {
     /// refusal number is at least 1.
     pub fn refusal(self) -> Option<Refusal> {
         let rest = self.0 & !(1 << 63);
-        (self.0 >= FIRST_REFUSAL).then_some(Refusal { number: rest >> 32, place: rest & 0xFFFF_FFFF })
+        (self.0 >= FIRST_REFUSAL).then_some(Refusal {
+            number: rest >> 32,
+            place: rest & 0xFFFF_FFFF,
+        })
     }
 }
 
@@ -49,4 +54,20 @@ impl fmt::Debug for Answer {
 pub struct Outcome {
     pub answer: Answer,
     pub sheet: Vec<u8>,
+}
+
+/// A case for a message: the table's first words, and the lengths.
+pub fn describe(seed: u64, call: Call, table: &[u8], sheet_len: usize) -> String {
+    let words = words_of(table);
+    let shown: Vec<String> = words
+        .iter()
+        .take(20)
+        .map(|word| format!("{word:016X}"))
+        .collect();
+    let more = if words.len() > 20 { " ..." } else { "" };
+    format!(
+        "seed {seed}, {call:?}\ntable of {} bytes: {}{more}\nsheet of {sheet_len} bytes",
+        table.len(),
+        shown.join(" "),
+    )
 }

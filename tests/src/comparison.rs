@@ -1,6 +1,6 @@
 //! Runs a call in the library and after the paper and compares answer and sheet.
 
-use crate::call::{Answer, Call, Outcome};
+use crate::call::{describe, Answer, Call, Outcome};
 use crate::layout::{bytes_of, fields, words_of};
 use crate::library::Library;
 use crate::paper;
@@ -17,7 +17,12 @@ pub struct Comparison {
 
 impl Comparison {
     pub fn new(seed: u64) -> Comparison {
-        Comparison { seed, rng: Rng::new(seed), library: Library::new(!seed), tally: Tally::default() }
+        Comparison {
+            seed,
+            rng: Rng::new(seed),
+            library: Library::new(seed),
+            tally: Tally::default(),
+        }
     }
 
     /// One case. Gives back the answer.
@@ -27,17 +32,23 @@ impl Comparison {
         if found != expected {
             panic!("{}", self.difference(call, table, sheet, &expected, &found));
         }
-        self.tally.note(call, &paper::refusals(call, table, sheet.len()));
+        self.tally
+            .note(call, &paper::refusals(call, table, sheet.len()));
         expected.answer
     }
 
-    fn difference(&self, call: Call, table: &[u8], sheet: &[u8], expected: &Outcome, found: &Outcome) -> String {
-        let words: Vec<String> = words_of(table).iter().take(20).map(|word| format!("{word:016X}")).collect();
-        let byte = (0..sheet.len()).find(|&i| expected.sheet[i] != found.sheet[i]);
-        let sheets = match byte {
-            None => "sheets are equal".to_string(),
+    fn difference(
+        &self,
+        call: Call,
+        table: &[u8],
+        sheet: &[u8],
+        expected: &Outcome,
+        found: &Outcome,
+    ) -> String {
+        let sheets = match (0..sheet.len()).find(|&i| expected.sheet[i] != found.sheet[i]) {
+            None => "the sheets are equal".to_string(),
             Some(i) => format!(
-                "sheet differs from byte {i} (place {}): {:02X} by the paper, {:02X} by the library, {:02X} before",
+                "the sheets differ from byte {i} (place {}): {:02X} by the paper, {:02X} by the library, {:02X} before",
                 i / 8,
                 expected.sheet[i],
                 found.sheet[i],
@@ -45,13 +56,8 @@ impl Comparison {
             ),
         };
         format!(
-            "seed {}, {call:X?}\ntable of {} bytes: {}{}\nsheet of {} bytes\n\
-             by the paper:   {:?}\nby the library: {:?}\n{sheets}",
-            self.seed,
-            table.len(),
-            words.join(" "),
-            if table.len() / 8 > 20 { " ..." } else { "" },
-            sheet.len(),
+            "{}\nby the paper:   {:?}\nby the library: {:?}\n{sheets}",
+            describe(self.seed, call, table, sheet.len()),
             expected.answer,
             found.answer,
         )
@@ -86,14 +92,23 @@ impl Comparison {
     fn setups(&mut self, table: &[u8]) -> Vec<u64> {
         let n = table.first().map_or(0, |byte| byte / 4);
         let limit = 1u64 << n;
-        vec![0, limit - 1, limit, u64::MAX, self.rng.below(limit), self.rng.word()]
+        vec![
+            0,
+            limit - 1,
+            limit,
+            u64::MAX,
+            self.rng.below(limit),
+            self.rng.word(),
+        ]
     }
 }
 
 /// The number of records for which sheets are cut: N, or the records there are if N is greater.
 pub fn sheet_nodes(table: &[u8]) -> u64 {
     let words = words_of(table);
-    words.first().map_or(0, |&header| fields(header).1.min(words.len() as u64))
+    words
+        .first()
+        .map_or(0, |&header| fields(header).1.min(words.len() as u64))
 }
 
 /// Prints past the capture of the test harness.

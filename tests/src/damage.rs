@@ -17,16 +17,26 @@ pub fn aim(rng: &mut Rng, words: &mut [u64], refusal: u64) {
 fn aim_at_header(rng: &mut Rng, words: &mut [u64], refusal: u64) {
     let (n, node_count, root) = fields(words[0]);
     let one_less = node_count.saturating_sub(1);
-    let (any_count, any_great, any_node) = (rng.below(65_536), rng.between(65_536, EDGE_BITS), rng.below(1 << 28));
+    let (any_count, any_great, any_node) = (
+        rng.below(65_536),
+        rng.between(65_536, EDGE_BITS),
+        rng.below(1 << 28),
+    );
     words[0] = match refusal {
         1 => word(n, rng.pick(&[node_count + 1, one_less, 0, any_count]), root),
         2 => {
             let count = rng.pick(&[65_536, 65_537, 131_072 + node_count, EDGE_BITS, any_great]);
-            let edge = rng.pick(&[root, 2 * count & EDGE_BITS]);
+            let edge = rng.pick(&[root, (2 * count) & EDGE_BITS]);
             word(n, count, edge)
         }
         _ => {
-            let node = rng.pick(&[node_count + 1, one_less, 0, node_count ^ (1 << 16), any_node]);
+            let node = rng.pick(&[
+                node_count + 1,
+                one_less,
+                0,
+                node_count ^ (1 << 16),
+                any_node,
+            ]);
             word(n, node_count, 2 * node + root % 2)
         }
     };
@@ -54,7 +64,15 @@ fn aim_at_record(rng: &mut Rng, words: &mut [u64], refusal: u64) {
         }
         6 => {
             let any = rng.below(1 << 28);
-            let node = rng.pick(&[k, k + 1, k - 1, node_count, node_count + 1, (1 << 28) - 1, any]);
+            let node = rng.pick(&[
+                k,
+                k + 1,
+                k - 1,
+                node_count,
+                node_count + 1,
+                (1 << 28) - 1,
+                any,
+            ]);
             if rng.chance(50) {
                 then_edge = 2 * node + then_edge % 2;
             } else {
@@ -92,7 +110,11 @@ pub fn break_last_record(rng: &mut Rng, words: &mut [u64], rules: &[u64]) {
     let (mut height, mut then_edge, mut else_edge) = fields(words[k as usize]);
     let breaks = |rule: u64| rules.contains(&rule);
     if breaks(4) {
-        height = if breaks(5) || n == 63 { 0 } else { rng.between(n + 1, 63) };
+        height = if breaks(5) || n == 63 {
+            0
+        } else {
+            rng.between(n + 1, 63)
+        };
     } else if breaks(5) && k > 1 {
         (height, then_edge, else_edge) = fields(words[k as usize - 1]);
     }
@@ -130,7 +152,11 @@ pub fn small_fields(rng: &mut Rng) -> Vec<u64> {
     let node_count = rng.below(6);
     let mut words = vec![word(n, node_count, 2 * node_count + rng.below(2))];
     for k in 1..=node_count {
-        let height = if rng.chance(85) { (k + 1) / 2 } else { rng.below(n + 2) };
+        let height = if rng.chance(85) {
+            k.div_ceil(2)
+        } else {
+            rng.below(n + 2)
+        };
         let limit = if rng.chance(85) { 2 * k } else { 2 * k + 4 };
         let then_edge = rng.below(limit) & if rng.chance(85) { !1 } else { !0 };
         words.push(word(height, then_edge, rng.below(limit)));

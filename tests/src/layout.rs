@@ -20,5 +20,8 @@ pub fn bytes_of(words: &[u64]) -> Vec<u8> {
 
 /// The whole words at the front of a byte row.
 pub fn words_of(bytes: &[u8]) -> Vec<u64> {
-    bytes.chunks_exact(8).map(|chunk| u64::from_be_bytes(chunk.try_into().unwrap())).collect()
+    bytes
+        .chunks_exact(8)
+        .map(|chunk| u64::from_be_bytes(chunk.try_into().unwrap()))
+        .collect()
 }

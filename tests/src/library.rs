@@ -1,13 +1,23 @@
 //! The library under test. Every slice is lent inside a larger memory, at a varying alignment and
 //! with guard bytes of varying content on both sides; table and guards have to stay unchanged.
 
-use crate::call::{Answer, Call, Outcome};
+use crate::call::{describe, Answer, Call, Outcome};
 use crate::rng::Rng;
 
 mod ffi {
     extern "C" {
-        pub fn setupbook_check(table: *const u8, table_len: usize, sheet: *mut u8, sheet_len: usize) -> u64;
-        pub fn setupbook_count(table: *const u8, table_len: usize, sheet: *mut u8, sheet_len: usize) -> u64;
+        pub fn setupbook_check(
+            table: *const u8,
+            table_len: usize,
+            sheet: *mut u8,
+            sheet_len: usize,
+        ) -> u64;
+        pub fn setupbook_count(
+            table: *const u8,
+            table_len: usize,
+            sheet: *mut u8,
+            sheet_len: usize,
+        ) -> u64;
         pub fn setupbook_test(
             table: *const u8,
             table_len: usize,
@@ -38,7 +48,12 @@ impl Memory {
         let start = GUARD + (offset + 8 - address % 8) % 8;
         bytes[start..start + content.len()].copy_from_slice(content);
         bytes[start + content.len()..].copy_from_slice(&guards[start..]);
-        Memory { bytes, guards, start, len: content.len() }
+        Memory {
+            bytes,
+            guards,
+            start,
+            len: content.len(),
+        }
     }
 
     fn pointer(&mut self) -> *mut u8 {
@@ -49,21 +64,24 @@ impl Memory {
         &self.bytes[self.start..self.start + self.len]
     }
 
-    fn assert_guards(&self, name: &str, call: Call) {
+    fn guards_unchanged(&self) -> bool {
         let (before, after) = self.guards.split_at(self.start);
-        assert!(&self.bytes[..self.start] == before, "{call:?} wrote before the {name}");
-        assert!(&self.bytes[self.start + self.len..] == after, "{call:?} wrote past the {name}");
+        &self.bytes[..self.start] == before && &self.bytes[self.start + self.len..] == after
     }
 }
 
 /// Lends memory to the library and calls it.
 pub struct Library {
+    seed: u64,
     rng: Rng,
 }
 
 impl Library {
     pub fn new(seed: u64) -> Library {
-        Library { rng: Rng::new(seed) }
+        Library {
+            seed,
+            rng: Rng::new(!seed),
+        }
     }
 
     pub fn run(&mut self, call: Call, table: &[u8], sheet: &[u8]) -> Outcome {
@@ -80,9 +98,25 @@ impl Library {
                 Call::Test { setup } => ffi::setupbook_test(t, t_len, setup, s, s_len),
             }
         };
-        assert!(lent_table.content() == table, "{call:?} changed the table");
-        lent_table.assert_guards("table", call);
-        lent_sheet.assert_guards("sheet", call);
-        Outcome { answer: Answer(answer), sheet: lent_sheet.content().to_vec() }
+        let case = || describe(self.seed, call, table, sheet.len());
+        assert!(
+            lent_table.content() == table,
+            "the table has changed\n{}",
+            case()
+        );
+        assert!(
+            lent_table.guards_unchanged(),
+            "bytes beside the table have changed\n{}",
+            case()
+        );
+        assert!(
+            lent_sheet.guards_unchanged(),
+            "bytes beside the sheet have changed\n{}",
+            case()
+        );
+        Outcome {
+            answer: Answer(answer),
+            sheet: lent_sheet.content().to_vec(),
+        }
     }
 }

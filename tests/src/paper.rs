@@ -28,24 +28,40 @@ pub struct Table {
 }
 
 fn edge(value: u64) -> Edge {
-    Edge { node: value / 2, flag: value % 2 == 1 }
+    Edge {
+        node: value / 2,
+        flag: value % 2 == 1,
+    }
 }
 
 impl Table {
     pub fn read(bytes: &[u8]) -> Table {
         let words = words_of(bytes);
         let (n, node_count, root) = fields(words[0]);
-        Table { n, node_count, root: edge(root), words }
+        Table {
+            n,
+            node_count,
+            root: edge(root),
+            words,
+        }
     }
 
     pub fn record(&self, k: u64) -> Record {
         let (height, then_edge, else_edge) = fields(self.words[k as usize]);
-        Record { height, then_edge: edge(then_edge), else_edge: edge(else_edge) }
+        Record {
+            height,
+            then_edge: edge(then_edge),
+            else_edge: edge(else_edge),
+        }
     }
 
     /// The sink has height 0.
     pub fn height(&self, node: u64) -> u64 {
-        if node == 0 { 0 } else { self.record(node).height }
+        if node == 0 {
+            0
+        } else {
+            self.record(node).height
+        }
     }
 
     /// Rule 6 for one edge of record k: a node not below k, or one whose height is not below the
@@ -59,12 +75,23 @@ impl Table {
         let record = self.record(k);
         let broken = [
             (4, record.height == 0 || record.height > self.n),
-            (5, k > 1 && self.words[k as usize] <= self.words[k as usize - 1]),
-            (6, self.leads_too_high(k, record.then_edge) || self.leads_too_high(k, record.else_edge)),
+            (
+                5,
+                k > 1 && self.words[k as usize] <= self.words[k as usize - 1],
+            ),
+            (
+                6,
+                self.leads_too_high(k, record.then_edge)
+                    || self.leads_too_high(k, record.else_edge),
+            ),
             (7, record.then_edge.flag),
             (8, record.then_edge == record.else_edge),
         ];
-        broken.iter().filter(|rule| rule.1).map(|rule| rule.0).collect()
+        broken
+            .iter()
+            .filter(|rule| rule.1)
+            .map(|rule| rule.0)
+            .collect()
     }
 
     /// The lowest record below `last` that no record names; `last` is N unless records are missing.
@@ -89,7 +116,11 @@ impl Table {
         while edge.node != 0 {
             let record = self.record(edge.node);
             let bit = (settings >> (record.height - 1)) & 1;
-            edge = if bit == 1 { record.then_edge } else { record.else_edge };
+            edge = if bit == 1 {
+                record.then_edge
+            } else {
+                record.else_edge
+            };
             flags += u64::from(edge.flag);
         }
         flags % 2 == 0
@@ -98,7 +129,11 @@ impl Table {
     /// The count under an edge, of the 2^h settings below its node of height h.
     fn count_under(&self, edge: Edge, counts: &[u128]) -> u128 {
         let plain = counts[edge.node as usize];
-        if edge.flag { (1u128 << self.height(edge.node)) - plain } else { plain }
+        if edge.flag {
+            (1u128 << self.height(edge.node)) - plain
+        } else {
+            plain
+        }
     }
 
     /// Places 0 to N of an accepted table.
@@ -169,14 +204,20 @@ pub fn run(call: Call, table: &[u8], sheet: &[u8]) -> Outcome {
     let mut sheet = sheet.to_vec();
     if let Some(refusal) = refusal {
         if refusal.number <= 8 || refusal.number == 10 {
-            return Outcome { answer: Answer::refused(refusal), sheet };
+            return Outcome {
+                answer: Answer::refused(refusal),
+                sheet,
+            };
         }
     }
 
     let table = Table::read(table);
     if let Some(refusal) = refusal.filter(|refusal| refusal.number == 9) {
         put_places(&mut sheet, &vec![0; table.node_count as usize + 1]);
-        return Outcome { answer: Answer::refused(refusal), sheet };
+        return Outcome {
+            answer: Answer::refused(refusal),
+            sheet,
+        };
     }
     let counts = table.counts();
     put_places(&mut sheet, &counts);

@@ -12,7 +12,10 @@ impl Rng {
     /// The seed of a test run: SETUPBOOK_SEED in decimal, or a constant.
     pub fn seed_of_run() -> u64 {
         match std::env::var("SETUPBOOK_SEED") {
-            Ok(text) => text.trim().parse().expect("SETUPBOOK_SEED is a decimal number"),
+            Ok(text) => text
+                .trim()
+                .parse()
+                .expect("SETUPBOOK_SEED is a decimal number"),
             Err(_) => 20_250_101,
         }
     }

@@ -3,7 +3,7 @@
 
 use std::collections::{BTreeMap, BTreeSet, HashMap, HashSet};
 
-use crate::layout::word;
+use crate::layout::{fields, word};
 use crate::rng::Rng;
 
 /// The two tables without records.
@@ -16,7 +16,9 @@ pub type TruthTable = Vec<bool>;
 
 /// Truth table number `number` of the 2^(2^n), for n up to 5.
 pub fn numbered_truth_table(n: u64, number: u64) -> TruthTable {
-    (0..1u64 << n).map(|setup| (number >> setup) & 1 == 1).collect()
+    (0..1u64 << n)
+        .map(|setup| (number >> setup) & 1 == 1)
+        .collect()
 }
 
 /// A random truth table with constant, repeated and opposite parts.
@@ -31,7 +33,11 @@ pub fn random_truth_table(rng: &mut Rng, n: u64) -> TruthTable {
         3..=4 => opposite(&low),
         _ => random_truth_table(rng, n - 1),
     };
-    if rng.chance(50) { [low, high].concat() } else { [high, low].concat() }
+    if rng.chance(50) {
+        [low, high].concat()
+    } else {
+        [high, low].concat()
+    }
 }
 
 fn opposite(function: &TruthTable) -> TruthTable {
@@ -47,7 +53,11 @@ fn halves(function: &TruthTable) -> (TruthTable, TruthTable) {
 /// settings 1, and dependent on its first setting.
 fn node_of(function: &TruthTable) -> (TruthTable, u64) {
     let flag = u64::from(!function[function.len() - 1]);
-    let mut plain = if flag == 1 { opposite(function) } else { function.clone() };
+    let mut plain = if flag == 1 {
+        opposite(function)
+    } else {
+        function.clone()
+    };
     while plain.len() > 1 && plain[..plain.len() / 2] == plain[plain.len() / 2..] {
         plain.truncate(plain.len() / 2);
     }
@@ -98,27 +108,31 @@ pub type Plan = Vec<(u64, usize)>;
 /// A plan for n settings and at most `most` records, with random gaps between the heights. Every
 /// level but the lowest is at most half of what is possible there.
 pub fn random_plan(rng: &mut Rng, n: u64, most: usize) -> Plan {
-    let dense = rng.pick(&[10, 50, 90, 100]);
+    let dense = rng.pick(&[10, 60, 100, 100]);
     let mut heights: Vec<u64> = (1..=n).filter(|_| rng.chance(dense)).collect();
     if heights.is_empty() {
         heights.push(rng.between(1, n));
     }
-    let growth = rng.pick(&[1, 1, 2, 4, 16]);
+    let growth = rng.pick(&[1, 2, 4, 16]);
     let mut sizes = Vec::new();
     let mut total = 0;
     for _ in &heights {
-        // From the root down: each record and the root edge name at most one more node than
-        // there are records above.
+        // From the root down: the root edge and the records above leave room for one unnamed
+        // node more than there are records above.
         let limit = (1 + total).min(most - total).min(growth * (1 + total / 4));
         if limit == 0 {
             break;
         }
-        let size = rng.between(1, limit as u64) as usize;
+        let size = rng.between(1 + limit as u64 / 3, limit as u64) as usize;
         sizes.push(size);
         total += size;
     }
     let kept = heights.len() - sizes.len();
-    let mut plan: Plan = heights.split_off(kept).into_iter().zip(sizes.into_iter().rev()).collect();
+    let mut plan: Plan = heights
+        .split_off(kept)
+        .into_iter()
+        .zip(sizes.into_iter().rev())
+        .collect();
     fit_from_below(&mut plan);
     plan
 }
@@ -169,9 +183,14 @@ pub fn from_plan(rng: &mut Rng, n: u64, plan: &Plan, name_all: bool) -> Vec<u64>
         // The records above this level and the root edge can name `above + 1` more nodes.
         let must = (unnamed.len() + size).saturating_sub(above + 1);
         let can = unnamed.len().min(2 * size);
-        let forced = if !name_all { 0 } else { rng.between(must as u64, can as u64) as usize };
+        let forced = if !name_all {
+            0
+        } else {
+            rng.between(must as u64, can as u64) as usize
+        };
         rng.shuffle(&mut unnamed);
-        let mut ends: Vec<Option<u64>> = unnamed.drain(unnamed.len() - forced..).map(Some).collect();
+        let mut ends: Vec<Option<u64>> =
+            unnamed.drain(unnamed.len() - forced..).map(Some).collect();
         ends.resize(2 * size, None);
         rng.shuffle(&mut ends);
 
@@ -203,7 +222,7 @@ pub fn from_plan(rng: &mut Rng, n: u64, plan: &Plan, name_all: bool) -> Vec<u64>
 }
 
 fn names(record: u64) -> [u64; 2] {
-    let (_, then_edge, else_edge) = crate::layout::fields(record);
+    let (_, then_edge, else_edge) = fields(record);
     [then_edge / 2, else_edge / 2]
 }
 
@@ -218,7 +237,11 @@ fn random_record(rng: &mut Rng, height: u64, below: u64, ends: [Option<u64>; 2])
         })
     });
     rng.shuffle(&mut nodes);
-    let flag = if nodes[0] == nodes[1] { 1 } else { rng.below(2) };
+    let flag = if nodes[0] == nodes[1] {
+        1
+    } else {
+        rng.below(2)
+    };
     word(height, 2 * nodes[0], 2 * nodes[1] + flag)
 }
 

@@ -41,7 +41,11 @@ impl Tally {
             let pair = (first.number, other.number);
             self.together.insert(pair);
             if RECORD_RULES.contains(&first.number) && RECORD_RULES.contains(&other.number) {
-                let set = if first.place == other.place { &mut self.same_record } else { &mut self.later_record };
+                let set = if first.place == other.place {
+                    &mut self.same_record
+                } else {
+                    &mut self.later_record
+                };
                 set.insert(pair);
             }
         }
@@ -53,7 +57,10 @@ impl Tally {
             for number in 0..=12 {
                 let possible = number != 11 && (number != 12 || name == "test");
                 let met = self.answers.contains_key(&(name, number));
-                assert!(met == possible, "{name}, refusal {number} (0: a result): met is {met}");
+                assert!(
+                    met == possible,
+                    "{name}, refusal {number} (0: a result): met is {met}"
+                );
             }
         }
     }
@@ -62,7 +69,10 @@ impl Tally {
     pub fn assert_every_pair(&self) {
         for (i, &first) in ORDER.iter().enumerate() {
             for &other in &ORDER[i + 1..] {
-                assert!(self.together.contains(&(first, other)), "no case of {first} before {other}");
+                assert!(
+                    self.together.contains(&(first, other)),
+                    "no case of {first} before {other}"
+                );
             }
         }
         for (i, &first) in RECORD_RULES.iter().enumerate() {
@@ -80,7 +90,14 @@ impl Tally {
         for ((_, number), cases) in &self.answers {
             *by_number.entry(*number).or_default() += cases;
         }
-        let parts: Vec<String> = by_number.iter().map(|(number, cases)| format!("{number}: {cases}")).collect();
-        format!("{} cases; by refusal (0: a result) {}", self.cases, parts.join(", "))
+        let parts: Vec<String> = by_number
+            .iter()
+            .map(|(number, cases)| format!("{number}: {cases}"))
+            .collect();
+        format!(
+            "{} cases; by refusal (0: a result) {}",
+            self.cases,
+            parts.join(", ")
+        )
     }
 }

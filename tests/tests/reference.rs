@@ -11,11 +11,21 @@ fn compare_with_brute_force(words: &[u64]) {
     let table = Table::read(&bytes_of(words));
     let counts = table.counts();
     for k in 0..=table.node_count {
-        let plain = Edge { node: k, flag: false };
-        let permitted = (0..1u64 << table.height(k)).filter(|&settings| table.permits(plain, settings)).count();
-        assert_eq!(counts[k as usize], permitted as u128, "place {k} of {words:016X?}");
+        let plain = Edge {
+            node: k,
+            flag: false,
+        };
+        let permitted = (0..1u64 << table.height(k))
+            .filter(|&settings| table.permits(plain, settings))
+            .count();
+        assert_eq!(
+            counts[k as usize], permitted as u128,
+            "place {k} of {words:016X?}"
+        );
     }
-    let permitted = (0..1u64 << table.n).filter(|&setup| table.permits(table.root, setup)).count();
+    let permitted = (0..1u64 << table.n)
+        .filter(|&setup| table.permits(table.root, setup))
+        .count();
     assert_eq!(table.total(&counts), permitted as u128, "{words:016X?}");
 }
 

@@ -6,7 +6,12 @@ use setupbook_tests::layout::{bytes_of, words_of};
 use setupbook_tests::library::Library;
 use setupbook_tests::rng::Rng;
 
-const A: [u64; 4] = [0x0C00000060000006, 0x0400000000000001, 0x0800000040000003, 0x0C00000080000000];
+const A: [u64; 4] = [
+    0x0C00000060000006,
+    0x0400000000000001,
+    0x0800000040000003,
+    0x0C00000080000000,
+];
 
 /// A with another header, or with another record.
 fn a_with(place: usize, word: u64) -> [u64; 4] {
@@ -39,7 +44,12 @@ fn accepted_samples() -> Vec<Sample> {
         sample(&[0x0C00000000000001], 3, 0, 0, &[]),
         // The two parts of A for k = 2.
         sample(
-            &[0x0C00000060000007, 0x0400000000000001, 0x0800000040000001, 0x0C00000000000004],
+            &[
+                0x0C00000060000007,
+                0x0400000000000001,
+                0x0800000040000001,
+                0x0C00000000000004,
+            ],
             3,
             3,
             3,
@@ -91,20 +101,40 @@ fn samples_of_the_paper() {
 
     for sample in accepted_samples() {
         let table = bytes_of(&sample.words);
-        assert_eq!(ask(Call::Check, &table).answer.0, (sample.n << 32) + sample.node_count);
+        assert_eq!(
+            ask(Call::Check, &table).answer.0,
+            (sample.n << 32) + sample.node_count
+        );
         assert_eq!(ask(Call::Count, &table).answer.0, sample.count);
         for setup in 0..1 << sample.n {
             let permitted = u64::from(sample.permitted.contains(&setup));
             assert_eq!(ask(Call::Test { setup }, &table).answer.0, permitted);
         }
-        let outside = Answer::refused(Refusal { number: 12, place: 0 });
-        assert_eq!(ask(Call::Test { setup: 1 << sample.n }, &table).answer, outside);
+        let outside = Answer::refused(Refusal {
+            number: 12,
+            place: 0,
+        });
+        assert_eq!(
+            ask(
+                Call::Test {
+                    setup: 1 << sample.n
+                },
+                &table
+            )
+            .answer,
+            outside
+        );
     }
 
     let table = bytes_of(&[0xFC00000000000000]);
     assert_eq!(ask(Call::Count, &table).answer.0, 9223372036854775808);
 
-    for call in [Call::Check, Call::Count, Call::Test { setup: 7 }, Call::Test { setup: 8 }] {
+    for call in [
+        Call::Check,
+        Call::Count,
+        Call::Test { setup: 7 },
+        Call::Test { setup: 8 },
+    ] {
         let places = words_of(&ask(call, &bytes_of(&A)).sheet);
         assert_eq!(places, [1, 1, 2, 6, u64::MAX, u64::MAX, u64::MAX, u64::MAX]);
         for (table, number, place) in refused_samples() {

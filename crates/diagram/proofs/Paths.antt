@@ -4,7 +4,7 @@ use mathlib.Core.Path.{_≡_, refl, ap}
 use mathlib.Core.Bool.{Bool, true, false, cond}
 use native.Mathlib.Nat.{le-refl}
 use native.Mathlib.Omega.{arith}
-use Rattle.diagram.specs.Format.{Words, height}
+use Rattle.diagram.specs.Format.{Words, height, thenEdge, elseEdge}
 use Rattle.diagram.specs.Meaning.{bit, branch, flip, holds, plain, under}
 use Rattle.diagram.specs.Ordered.{Ordered}
 
@@ -52,3 +52,22 @@ module _ (w : Words) (n N : ℕ) (D : Ordered w n N) where
   unfolding height
   height-le-settings zero l = omega arith
   height-le-settings (suc k) l = D .low k l
+
+-- an edge of node k that leads to a smaller node of smaller height
+pub record Lower (w : Words) (k e : ℕ) : Type 0 where
+  pub node : e / 2 < k
+  pub low : height w (e / 2) < height w k
+
+-- nodes from 1 to N, by their own numbers
+module _ (w : Words) (n N : ℕ) (D : Ordered w n N) where
+  pub tall-node : (k : ℕ) → 0 < k → k ≤ N → 0 < height w k
+  tall-node zero p l = absurd (omega arith)
+  tall-node (suc k) p l = D .tall k l
+
+  pub then-lower : (k : ℕ) → 0 < k → k ≤ N → Lower w k (thenEdge w k)
+  then-lower zero p l = absurd (omega arith)
+  then-lower (suc k) p l = record { node = omega (arith, D .then-node k l); low = D .then-height k l }
+
+  pub else-lower : (k : ℕ) → 0 < k → k ≤ N → Lower w k (elseEdge w k)
+  else-lower zero p l = absurd (omega arith)
+  else-lower (suc k) p l = record { node = omega (arith, D .else-node k l); low = D .else-height k l }

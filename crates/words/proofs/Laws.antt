@@ -8,7 +8,7 @@ use native.Mathlib.Numerals.{towards-suc}
 use lib.Dec.{lit<}
 use lib.Arith.{mod-mul}
 use lib.ListN.{length, getD, set, take, drop, length-append, length-drop, List·getD-append}
-use lib.Seq.{getD-append-add, take-at, drop-at, drop-drop, sets-eq}
+use lib.Seq.{getD-append-add, take-at, drop-at, drop-drop, drop-append-add, sets-eq}
 use Rattle.words.specs.Words.{beAt, wordAt, bytesOf, putWord, wordsBytes, wordsOver}
 use Rattle.words.proofs.Cases.{Tri, less, same, more, tri}
 
@@ -72,6 +72,17 @@ length-wordsOver f m s l = length-append (wordsBytes f m) (drop (8 * m) s) ∙ o
 pub no-words : (f : ℕ → ℕ) (s : List ℕ) → s ≡ wordsOver f 0 s
 unfolding wordsOver wordsBytes
 no-words f s = refl
+
+-- a run of words over a shorter one
+pub over-over : (f g : ℕ → ℕ) (m m′ : ℕ) (s : List ℕ) → m ≤ m′ → wordsOver f m′ (wordsOver g m s) ≡ wordsOver f m′ s
+unfolding wordsOver
+over-over f g m m′ s l =
+    let p = wordsBytes g m in
+    let e : 8 * m′ ≡ 8 * m + (8 * m′ - 8 * m) = omega arith in
+    let q : drop (8 * m′) (p ++ drop (8 * m) s) ≡ drop (8 * m′) s =
+    ap (λ (n : ℕ). drop n (p ++ drop (8 * m) s)) (e ∙ ap (λ (n : ℕ). n + (8 * m′ - 8 * m)) (sym (length-wordsBytes g m)))
+    ∙ drop-append-add p (drop (8 * m) s) (8 * m′ - 8 * m) ∙ drop-drop (8 * m′ - 8 * m) (8 * m) s ∙ ap (λ (n : ℕ). drop n s) (sym e) in
+    ap (λ (r : List ℕ). wordsBytes f m′ ++ r) q
 
 -- one more word of a run
 pub put-next : (f : ℕ → ℕ) (m : ℕ) (s : List ℕ) → 8 * m + 8 ≤ length s → putWord (wordsOver f m s) m (f m) ≡ wordsOver f (suc m) s

@@ -1,0 +1,5 @@
+-- The laws that the proofs of several functions use.
+pub mod Checks
+pub mod Places
+pub mod Nodes
+pub mod Filling

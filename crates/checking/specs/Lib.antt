@@ -1,0 +1,4 @@
+-- What the operations answer and leave in the sheet.
+pub mod Answers
+pub mod Operations
+pub mod Sheet

@@ -1,0 +1,35 @@
+-- Checking, counting and testing: what each answers, and what stands in the sheet afterwards. Assumes nothing.
+use Prim.Native.Nat.{ℕ, _+_, _/_, _^_}
+use mathlib.Core.Bool.{Bool, cond}
+use mathlib.Core.List.{List}
+use lib.Dec.{eqb, leb}
+use lib.ListN.{length}
+use Rattle.words.specs.Words.{wordAt, wordsOver}
+use Rattle.diagram.specs.Format.{Words, settings, nodes}
+use Rattle.diagram.specs.Meaning.{permitted}
+use Rattle.diagram.specs.Count.{place, total}
+use Rattle.diagram.specs.Answer.{Answer, value, refusal, andThen}
+use Rattle.diagram.specs.Rules.{check}
+
+-- checking: n and N. A sheet of N + 1 places is needed
+unfoldable pub checking : List ℕ → List ℕ → Answer (ℕ × ℕ)
+checking table sheet = check table (length sheet / 8) (λ N. N + 1)
+
+-- counting: C
+unfoldable pub counting : List ℕ → List ℕ → Answer ℕ
+counting table sheet = andThen (checking table sheet) (λ _. value (total (wordAt table)))
+
+-- testing: whether setup x is permitted. Rule 12 after the table's own
+unfoldable pub testing : List ℕ → ℕ → List ℕ → Answer Bool
+testing table x sheet =
+    andThen (checking table sheet) λ _.
+    cond (leb (2 ^ settings (wordAt table)) x) (refusal 12 0) (value (permitted (wordAt table) x))
+
+-- the sheet after a check: the counts; or zeros, after 9; or untouched. Past place N, and in spare bytes, it is always as before
+unfoldable pub sheetBy : Words → Answer (ℕ × ℕ) → List ℕ → List ℕ
+sheetBy w (value v) sheet = wordsOver (place w) (nodes w + 1) sheet
+sheetBy w (refusal number at) sheet = cond (eqb number 9) (wordsOver (λ _. 0) (nodes w + 1) sheet) sheet
+
+-- the sheet after each of these operations
+unfoldable pub sheetAfter : List ℕ → List ℕ → List ℕ
+sheetAfter table sheet = sheetBy (wordAt table) (checking table sheet) sheet

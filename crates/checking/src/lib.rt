@@ -1,0 +1,209 @@
+// Checking, counting and testing. No operation has a `requires`: every table, sheet and setup gets its answer or its refusal.
+ghost use mathlib.Core.Path.{_≡_};
+ghost use mathlib.Core.Bool.{not, _&&_};
+ghost use Prim.Native.Nat.{_+_, _-_, _*_, _/_, _%_, _≤_, _<_, _^_};
+ghost use lib.Dec.{ltb, leb};
+ghost use lib.ListN.{length, getD};
+ghost use Rattle.words.specs.Words.{wordAt, wordsOver};
+ghost use Rattle.diagram.specs.Format.{settings, nodes, height};
+ghost use Rattle.diagram.specs.Meaning.{plain, under};
+ghost use Rattle.diagram.specs.Count.{countBelow, place};
+ghost use Rattle.diagram.specs.Answer.{value, andThen};
+ghost use Rattle.diagram.specs.Rules.{misled, checkRecord, checkHeader, checkRecords, checkNames};
+ghost use Rattle.diagram.specs.Ordered.{Holds};
+ghost use Rattle.diagram.specs.Reading.{Within};
+ghost use Rattle.checking.specs.Answers.{numberOf, placeOf, verdictAs, checkedAs, countedAs, testedAs};
+ghost use Rattle.checking.specs.Operations.{checking, counting, testing, sheetAfter};
+ghost use Rattle.checking.specs.Sheet.{Ready, Marked, checkMarks};
+use diagram::Edge;
+use diagram::Node;
+use diagram::Setup;
+
+// Why an operation is refused, and at which record.
+pub enum Refusal {
+    Length,
+    Nodes,
+    Root,
+    Height(Node),
+    Order(Node),
+    Target(Node),
+    ThenFlag(Node),
+    EqualEdges(Node),
+    Unnamed(Node),
+    Sheet,
+    SetupRange,
+}
+
+// Some of the rules: they pass, or the first that does not.
+pub enum Verdict {
+    Passed,
+    Refused(Refusal),
+}
+
+// An accepted table's n and N.
+pub struct Shape {
+    pub settings: u64,
+    pub nodes: usize,
+}
+
+pub enum Checked {
+    Table(Shape),
+    Refused(Refusal),
+}
+
+pub enum Counted {
+    Total(u64),
+    Refused(Refusal),
+}
+
+pub enum Tested {
+    Permitted(bool),
+    Refused(Refusal),
+}
+
+// Rules 1 to 3, and 10 where the sheet has `places` places and each × N + more are needed.
+fn check_header(table: &[u8], places: usize, each: usize, more: usize) -> Verdict
+    requires { ⌜ (each ≤ 64) × (more ≤ 512) ⌝ }
+    ensures { λ r. ⌜ verdictAs r ≡ checkHeader (now (table .entry)) places (λ N. each * N + more) ⌝ }
+{
+    if table.len() < 8 {
+        return Verdict::Refused(Refusal::Length);
+    }
+    let header = diagram::header_of(table);
+    let nodes = header.nodes;
+    if 65535 < nodes {
+        return Verdict::Refused(Refusal::Nodes);
+    }
+    if table.len() != 8 * (nodes + 1) {
+        return Verdict::Refused(Refusal::Length);
+    }
+    if header.root.node().0 != nodes {
+        return Verdict::Refused(Refusal::Root);
+    }
+    if places < each * nodes + more {
+        return Verdict::Refused(Refusal::Sheet);
+    }
+    Verdict::Passed
+}
+
+// Whether record k is not above the one before it.
+fn falls(table: &[u8], k: usize) -> bool
+    requires { ⌜ (0 < k) × (8 * k + 8 ≤ length (now table)) ⌝ }
+    ensures { λ r. ⌜ r ≡ (ltb 1 k && leb (wordAt (now (table .entry)) k) (wordAt (now (table .entry)) (k - 1))) ⌝ }
+{
+    if k <= 1 {
+        return false;
+    }
+    words::word_at(table, k) <= words::word_at(table, k - 1)
+}
+
+// Whether edge e of record k, of height h, leads to a node not below k or to one not below h.
+fn is_misled(table: &[u8], k: usize, h: u64, e: Edge) -> bool
+    requires { ⌜ (h ≡ height (wordAt (now table)) k) × (8 * k + 8 ≤ length (now table)) ⌝ }
+    ensures { λ r. ⌜ r ≡ misled (wordAt (now (table .entry))) k (e .value) ⌝ }
+{
+    let node = e.node();
+    if k <= node.0 {
+        return true;
+    }
+    h <= diagram::height_at(table, node)
+}
+
+// Rules 4 to 8, of record k.
+fn check_record(table: &[u8], n: u64, k: usize) -> Verdict
+    requires { ⌜ (0 < k) × (8 * k + 8 ≤ length (now table)) ⌝ }
+    ensures { λ r. ⌜ verdictAs r ≡ checkRecord (wordAt (now (table .entry))) n k ⌝ }
+{
+    let record = diagram::record_at(table, Node(k));
+    let h = record.height;
+    if h == 0 {
+        return Verdict::Refused(Refusal::Height(Node(k)));
+    }
+    if n < h {
+        return Verdict::Refused(Refusal::Height(Node(k)));
+    }
+    if falls(table, k) {
+        return Verdict::Refused(Refusal::Order(Node(k)));
+    }
+    if is_misled(table, k, h, record.high) {
+        return Verdict::Refused(Refusal::Target(Node(k)));
+    }
+    if is_misled(table, k, h, record.low) {
+        return Verdict::Refused(Refusal::Target(Node(k)));
+    }
+    if record.high.flagged() {
+        return Verdict::Refused(Refusal::ThenFlag(Node(k)));
+    }
+    if record.high.value == record.low.value {
+        return Verdict::Refused(Refusal::EqualEdges(Node(k)));
+    }
+    Verdict::Passed
+}
+
+// Rules 4 to 8, of records 1 to N upward.
+fn check_records(table: &[u8], n: u64, nodes: usize) -> Verdict
+    requires { ⌜ 8 * nodes + 8 ≤ length (now table) ⌝ }
+    ensures { λ r. ⌜ verdictAs r ≡ checkRecords (wordAt (now (table .entry))) n nodes ⌝ }
+{
+    let mut k = 0;
+    while k < nodes {
+        let verdict = check_record(table, n, k + 1);
+        let Verdict::Passed = verdict else {
+            return verdict;
+        };
+        k += 1;
+    }
+    Verdict::Passed
+}
+
+// How many of the 2^h setups below height h are permitted under edge e, by the places of the sheet.
+fn count_edge(table: &[u8], sheet: &[u8], e: Edge, h: u64) -> u64
+    requires { ⌜ Ready (now table) (now sheet) (e .value / 2) (e .value / 2 + 1) × (height (wordAt (now table)) (e .value / 2) ≤ h) × (h ≤ 63) ⌝ }
+    ensures { λ r. ⌜ r ≡ countBelow (under (wordAt (now (table .entry))) (e .value)) (2 ^ h) ⌝ }
+{
+    let node = e.node();
+    let g = diagram::height_at(table, node);
+    let c = words::word_at(sheet, node.0);
+    if e.flagged() {
+        return ((1 << g) - c) << (h - g);
+    }
+    c << (h - g)
+}
+
+// The count of node k, by the places of the nodes below it.
+fn count_node(table: &[u8], sheet: &[u8], k: usize) -> u64
+    requires { ⌜ (0 < k) × Ready (now table) (now sheet) k k ⌝ }
+    ensures { λ r. ⌜ (r ≡ place (wordAt (now (table .entry))) k) × (r < 18446744073709551616) ⌝ }
+{
+    let record = diagram::record_at(table, Node(k));
+    let h = record.height - 1;
+    count_edge(table, sheet, record.low, h) + count_edge(table, sheet, record.high, h)
+}
+
+// Marks the nodes that record k names.
+fn mark_named(table: &[u8], marks: &mut [u8], k: usize)
+    requires { ⌜ (0 < k) × Within (now table) k × (k < length (now marks)) × Marked (now marks) (k - 1) (wordAt (now table)) ⌝ }
+    ensures { λ _. ⌜ (length (now (marks .exit)) ≡ length (now (marks .entry))) × Marked (now (marks .exit)) k (wordAt (now (table .entry))) ⌝ }
+{
+    let record = diagram::record_at(table, Node(k));
+    let a = record.high.node().0;
+    let b = record.low.node().0;
+    marks[a] = 1;
+    marks[b] = 1;
+}
+
+// Fills places 0 to N with the counts, and marks the nodes that a record names.
+fn count_nodes(table: &[u8], sheet: &mut [u8], marks: &mut [u8], n: u64, nodes: usize)
+    requires { ⌜ Holds (now table) n nodes × (8 * nodes + 8 ≤ length (now sheet)) × (nodes < length (now marks)) × Marked (now marks) 0 (wordAt (now table)) ⌝ }
+    ensures { λ _. ⌜ (now (sheet .exit) ≡ wordsOver (place (wordAt (now (table .entry)))) (nodes + 1) (now (sheet .entry)))
+        × (length (now (marks .exit)) ≡ length (now (marks .entry))) × Marked (now (marks .exit)) nodes (wordAt (now (table .entry))) ⌝ }
+{
+    words::put_word(sheet, 0, 1);
+    let mut k = 0;
+    while k < nodes {
+        k += 1;
+        mark_named(table, marks, k);
+        let c = count_node(table, sheet, k);
+        words::put_word(sheet, k, c);
+    }
+}
