@@ -3,3 +3,4 @@ pub mod Checks
 pub mod Places
 pub mod Nodes
 pub mod Filling
+pub mod Compose

@@ -25,11 +25,11 @@ testing table x sheet =
     andThen (checking table sheet) λ _.
     cond (leb (2 ^ settings (wordAt table)) x) (refusal 12 0) (value (permitted (wordAt table) x))
 
--- the sheet after a check: the counts; or zeros, after 9; or untouched. Past place N, and in spare bytes, it is always as before
-unfoldable pub sheetBy : Words → Answer (ℕ × ℕ) → List ℕ → List ℕ
-sheetBy w (value v) sheet = wordsOver (place w) (nodes w + 1) sheet
-sheetBy w (refusal number at) sheet = cond (eqb number 9) (wordsOver (λ _. 0) (nodes w + 1) sheet) sheet
+-- the sheet after an answer of the check, of N nodes: the counts; or zeros, after 9; or untouched. Past place N, and in spare bytes, it is always as before
+unfoldable pub sheetBy : {A : Type 0} → Words → ℕ → Answer A → List ℕ → List ℕ
+sheetBy w N (value v) sheet = wordsOver (place w) (N + 1) sheet
+sheetBy w N (refusal number at) sheet = cond (eqb number 9) (wordsOver (λ _. 0) (N + 1) sheet) sheet
 
 -- the sheet after each of these operations
 unfoldable pub sheetAfter : List ℕ → List ℕ → List ℕ
-sheetAfter table sheet = sheetBy (wordAt table) (checking table sheet) sheet
+sheetAfter table sheet = sheetBy (wordAt table) (nodes (wordAt table)) (checking table sheet) sheet

@@ -9,11 +9,11 @@ ghost use Rattle.diagram.specs.Format.{settings, nodes, height};
 ghost use Rattle.diagram.specs.Meaning.{plain, under};
 ghost use Rattle.diagram.specs.Count.{countBelow, place};
 ghost use Rattle.diagram.specs.Answer.{value, andThen};
-ghost use Rattle.diagram.specs.Rules.{misled, checkRecord, checkHeader, checkRecords, checkNames};
+ghost use Rattle.diagram.specs.Rules.{misled, checkRecord, checkHeader, checkRecords, checkNames, checkDiagram};
 ghost use Rattle.diagram.specs.Ordered.{Holds};
 ghost use Rattle.diagram.specs.Reading.{Within};
 ghost use Rattle.checking.specs.Answers.{numberOf, placeOf, verdictAs, checkedAs, countedAs, testedAs};
-ghost use Rattle.checking.specs.Operations.{checking, counting, testing, sheetAfter};
+ghost use Rattle.checking.specs.Operations.{checking, counting, testing, sheetBy, sheetAfter};
 ghost use Rattle.checking.specs.Sheet.{Ready, Marked, checkMarks};
 use diagram::Edge;
 use diagram::Node;
@@ -206,4 +206,93 @@ fn count_nodes(table: &[u8], sheet: &mut [u8], marks: &mut [u8], n: u64, nodes: 
         let c = count_node(table, sheet, k);
         words::put_word(sheet, k, c);
     }
+}
+
+// Rule 9 by the marks: the lowest node from 1 to N - 1 without one.
+fn check_marks(marks: &[u8], nodes: usize) -> Verdict
+    requires { ⌜ nodes ≤ length (now marks) ⌝ }
+    ensures { λ r. ⌜ verdictAs r ≡ checkMarks (now (marks .entry)) nodes ⌝ }
+{
+    let mut k = 1;
+    while k < nodes {
+        if marks[k] == 0 {
+            return Verdict::Refused(Refusal::Unnamed(Node(k)));
+        }
+        k += 1;
+    }
+    Verdict::Passed
+}
+
+// Fills places 0 to N with the counts, and checks rule 9 by marks that are clear.
+fn count_named(table: &[u8], sheet: &mut [u8], marks: &mut [u8], n: u64, nodes: usize) -> Verdict
+    requires { ⌜ Holds (now table) n nodes × (8 * nodes + 8 ≤ length (now sheet)) × (nodes < length (now marks)) × Marked (now marks) 0 (wordAt (now table)) ⌝ }
+    ensures { λ r. ⌜ (verdictAs r ≡ checkNames (wordAt (now (table .entry))) nodes)
+        × (now (sheet .exit) ≡ wordsOver (place (wordAt (now (table .entry)))) (nodes + 1) (now (sheet .entry))) ⌝ }
+{
+    count_nodes(table, sheet, marks, n, nodes);
+    check_marks(marks, nodes)
+}
+
+// The same with marks on the stack, of which small tables clear fewer.
+fn check_names(table: &[u8], sheet: &mut [u8], n: u64, nodes: usize) -> Verdict
+    requires { ⌜ Holds (now table) n nodes × (8 * nodes + 8 ≤ length (now sheet)) ⌝ }
+    ensures { λ r. ⌜ (verdictAs r ≡ checkNames (wordAt (now (table .entry))) nodes)
+        × (now (sheet .exit) ≡ wordsOver (place (wordAt (now (table .entry)))) (nodes + 1) (now (sheet .entry))) ⌝ }
+{
+    if nodes < 1024 {
+        let mut marks = [0u8; 1024];
+        return count_named(table, sheet, &mut marks, n, nodes);
+    }
+    let mut marks = [0u8; 65536];
+    count_named(table, sheet, &mut marks, n, nodes)
+}
+
+// Fills places 0 to p - 1 with zero.
+fn blank(sheet: &mut [u8], p: usize)
+    requires { ⌜ 8 * p ≤ length (now sheet) ⌝ }
+    ensures { λ _. ⌜ now (sheet .exit) ≡ wordsOver (λ _. 0) p (now (sheet .entry)) ⌝ }
+{
+    let mut k = 0;
+    while k < p {
+        words::put_word(sheet, k, 0);
+        k += 1;
+    }
+}
+
+// Rules 4 to 9, of a diagram of n settings and N nodes, with the sheet as they leave it.
+fn check_diagram(table: &[u8], sheet: &mut [u8], n: u64, nodes: usize) -> Verdict
+    requires { ⌜ (8 * nodes + 8 ≤ length (now table)) × (8 * nodes + 8 ≤ length (now sheet)) × (nodes ≤ 65535) × (n ≤ 63) ⌝ }
+    ensures { λ r. ⌜ (verdictAs r ≡ checkDiagram (wordAt (now (table .entry))) n nodes)
+        × (now (sheet .exit) ≡ sheetBy (wordAt (now (table .entry))) nodes (verdictAs r) (now (sheet .entry))) ⌝ }
+{
+    let records = check_records(table, n, nodes);
+    let Verdict::Passed = records else {
+        return records;
+    };
+    let names = check_names(table, sheet, n, nodes);
+    let Verdict::Passed = names else {
+        blank(sheet, nodes + 1);
+        return names;
+    };
+    names
+}
+
+// Checks a table: its n and N, or its refusal.
+pub fn check(table: &[u8], sheet: &mut [u8]) -> Checked
+    ensures { λ r. ⌜ (checkedAs r ≡ checking (now (table .entry)) (now (sheet .entry)))
+        × (now (sheet .exit) ≡ sheetAfter (now (table .entry)) (now (sheet .entry))) ⌝ }
+{
+    let header = check_header(table, sheet.len() / 8, 1, 1);
+    if let Verdict::Refused(r) = header {
+        return Checked::Refused(r);
+    }
+    let h = diagram::header_of(table);
+    let verdict = check_diagram(table, sheet, h.settings, h.nodes);
+    if let Verdict::Refused(r) = verdict {
+        return Checked::Refused(r);
+    }
+    Checked::Table(Shape {
+        settings: h.settings,
+        nodes: h.nodes,
+    })
 }

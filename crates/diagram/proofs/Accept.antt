@@ -13,7 +13,7 @@ use Rattle.words.proofs.Cases.{or-true, or-false, or-either, join-false, and-fa
 use Rattle.diagram.specs.Format.{Words, settings, nodes, root, height, thenEdge, elseEdge}
 use Rattle.diagram.specs.Count.{someBelow}
 use Rattle.diagram.specs.Answer.{Answer, value, refusal, andThen, pass, each}
-use Rattle.diagram.specs.Rules.{misled, checkRecord, names, named, checkNamed, checkHeader, checkRecords, checkNames, check, Accepts}
+use Rattle.diagram.specs.Rules.{misled, checkRecord, names, named, checkNamed, checkHeader, checkRecords, checkNames, checkDiagram, check, Accepts}
 use Rattle.diagram.specs.Ordered.{Ordered, Reduced, Named, Proper, Accepted}
 use Rattle.diagram.proofs.AnswerLaws.{refused-not, value-inj, then-value, each-all, all-each, some-at, some-found}
 
@@ -96,6 +96,13 @@ names-named w N e k l =
     go true e = refl
     go false e = absurd (refused-not e)
 
+-- a diagram that passes rules 4 to 9 is proper
+diagram-proper : (w : Words) (n N : ℕ) → checkDiagram w n N ≡ pass → Proper w n N
+unfolding checkDiagram
+diagram-proper w n N e =
+    let a = then-value (checkRecords w n N) (λ _. checkNames w N) e in
+    record { reduced = records-reduced w n N (a .0); named = names-named w N (a .1) }
+
 -- what the header's rules say
 pub record Headed (bytes : List ℕ) (lent : ℕ) (need : ℕ → ℕ) : Type 0 where
   pub long : length bytes ≡ 8 * (nodes (wordAt bytes) + 1)
@@ -125,9 +132,8 @@ unfolding check
 check-accepted bytes lent need n N e =
     let w = wordAt bytes in
     let a = then-value (checkHeader bytes lent need) _ e in
-    let b = then-value (checkRecords w (settings w) (nodes w)) _ (a .1) in
-    let c = then-value (checkNames w (nodes w)) _ (b .1) in
-    let v = value-inj (c .1) in
+    let d = then-value (checkDiagram w (settings w) (nodes w)) _ (a .1) in
+    let v = value-inj (d .1) in
     let s : settings w ≡ n = ap (λ q. q .0) v in
     let t : nodes w ≡ N = ap (λ q. q .1) v in
     let h = headed bytes lent need (a .0) in (
@@ -137,7 +143,7 @@ check-accepted bytes lent need n N e =
         has-settings = s;
         has-nodes = t;
         root-node = h .root-node ∙ t;
-        proper = rw (← s, ← t) (record { reduced = records-reduced w (settings w) (nodes w) (b .0); named = names-named w (nodes w) (c .0) });
+        proper = rw (← s, ← t) (diagram-proper w (settings w) (nodes w) (d .0));
       },
       subst (λ (m : ℕ). need m ≤ lent) t (h .enough),
     )
@@ -182,7 +188,7 @@ module _ (w : Words) (n N : ℕ) (A : Proper w n N) where
   records-pass = all-each (λ k. checkRecord w n (suc k)) N keeps
 
 pub accepted-check : (bytes : List ℕ) (lent : ℕ) (need : ℕ → ℕ) (n N : ℕ) → Accepted bytes n N → need N ≤ lent → check bytes lent need ≡ value (n, N)
-unfolding check checkHeader andThen
+unfolding check checkHeader checkDiagram andThen
 accepted-check bytes lent need n N A l =
     let w = wordAt bytes in
     let a = A .long in

@@ -38,7 +38,13 @@ unfolding each
 all-each f zero h = refl
 all-each f (suc m) h = each-next f m (all-each f m (λ k l. h k (omega arith))) ∙ h m (omega arith)
 
--- ... and otherwise it comes to its first refusal
+-- runs of checks that agree
+pub each-cong : (f g : ℕ → Answer (Unit {0})) (m : ℕ) → ((k : ℕ) → k < m → f k ≡ g k) → each f m ≡ each g m
+unfolding each
+each-cong f g zero h = refl
+each-cong f g (suc m) h = rw (each-cong f g m (λ k l. h k (omega arith)), h m (omega arith))
+
+-- a run that does not pass comes to its first refusal
 pub each-refused : (f : ℕ → Answer (Unit {0})) (m k r p : ℕ) → k < m → each f k ≡ pass → f k ≡ refusal r p → each f m ≡ refusal r p
 unfolding each andThen
 each-refused f zero k r p l e q = absurd (omega arith)

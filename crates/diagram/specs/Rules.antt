@@ -55,13 +55,16 @@ checkRecords w n N = each (λ k. checkRecord w n (suc k)) N
 unfoldable pub checkNames : Words → ℕ → Answer (Unit {0})
 checkNames w N = each (λ k. checkNamed w N (suc k)) (N - 1)
 
+-- rules 4 to 9, of a diagram of n settings and N nodes
+unfoldable pub checkDiagram : Words → ℕ → ℕ → Answer (Unit {0})
+checkDiagram w n N = andThen (checkRecords w n N) (λ _. checkNames w N)
+
 -- all rules in their order: the table's n and N, or the first refusal
 unfoldable pub check : List ℕ → ℕ → (ℕ → ℕ) → Answer (ℕ × ℕ)
 check bytes lent need =
     let w = wordAt bytes in
     andThen (checkHeader bytes lent need) λ _.
-    andThen (checkRecords w (settings w) (nodes w)) λ _.
-    andThen (checkNames w (nodes w)) λ _.
+    andThen (checkDiagram w (settings w) (nodes w)) λ _.
     value (settings w, nodes w)
 
 -- a table is accepted, with n settings and N nodes, if none of rules 1 to 9 refuses it, whatever memory is lent
