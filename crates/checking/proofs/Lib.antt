@@ -4,3 +4,4 @@ pub mod Places
 pub mod Nodes
 pub mod Filling
 pub mod Compose
+pub mod Walking

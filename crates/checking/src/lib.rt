@@ -5,14 +5,14 @@ ghost use Prim.Native.Nat.{_+_, _-_, _*_, _/_, _%_, _≤_, _<_, _^_};
 ghost use lib.Dec.{ltb, leb};
 ghost use lib.ListN.{length, getD};
 ghost use Rattle.words.specs.Words.{wordAt, wordsOver};
-ghost use Rattle.diagram.specs.Format.{settings, nodes, height};
-ghost use Rattle.diagram.specs.Meaning.{plain, under};
+ghost use Rattle.diagram.specs.Format.{height};
+ghost use Rattle.diagram.specs.Meaning.{branch, plain, under};
 ghost use Rattle.diagram.specs.Count.{countBelow, place};
-ghost use Rattle.diagram.specs.Answer.{value, andThen};
+ghost use Rattle.diagram.specs.Answer.{refusal};
 ghost use Rattle.diagram.specs.Rules.{misled, checkRecord, checkHeader, checkRecords, checkNames, checkDiagram};
 ghost use Rattle.diagram.specs.Ordered.{Holds};
 ghost use Rattle.diagram.specs.Reading.{Within};
-ghost use Rattle.checking.specs.Answers.{numberOf, placeOf, verdictAs, checkedAs, countedAs, testedAs};
+ghost use Rattle.checking.specs.Answers.{numberOf, placeOf, verdictAs, checkedAs, countedAs, testedAs, IsRefused};
 ghost use Rattle.checking.specs.Operations.{checking, counting, testing, sheetBy, sheetAfter};
 ghost use Rattle.checking.specs.Sheet.{Ready, Marked, checkMarks};
 use diagram::Edge;
@@ -295,4 +295,100 @@ pub fn check(table: &[u8], sheet: &mut [u8]) -> Checked
         settings: h.settings,
         nodes: h.nodes,
     })
+}
+
+// The refusal that an answer of the check holds.
+pub fn refusal_of(checked: Checked) -> Refusal
+    requires { ⌜ IsRefused checked ⌝ }
+    ensures { λ r. ⌜ checkedAs checked ≡ refusal (numberOf r) (placeOf r) ⌝ }
+{
+    match checked {
+        Checked::Refused(r) => r,
+        Checked::Table(_) => Refusal::Length,
+    }
+}
+
+// Counts the permitted setups.
+pub fn count(table: &[u8], sheet: &mut [u8]) -> Counted
+    ensures { λ r. ⌜ (countedAs r ≡ counting (now (table .entry)) (now (sheet .entry)))
+        × (now (sheet .exit) ≡ sheetAfter (now (table .entry)) (now (sheet .entry))) ⌝ }
+{
+    let checked = check(table, sheet);
+    let Checked::Table(_) = checked else {
+        return Counted::Refused(refusal_of(checked));
+    };
+    let header = diagram::header_of(table);
+    Counted::Total(count_edge(table, sheet, header.root, header.settings))
+}
+
+// Whether setup x is permitted under a plain edge to node k.
+fn permitted_plain(table: &[u8], k: Node, x: Setup) -> bool
+    requires { ⌜ Within (now table) (k .0) ⌝ }
+    ensures { λ r. ⌜ r ≡ plain (wordAt (now (table .entry))) (k .0) (x .0) ⌝ }
+{
+    if k.0 == 0 {
+        return true;
+    }
+    let e = branch_of(table, k, x);
+    if e.flagged() {
+        permitted_flagged(table, e.node(), x)
+    } else {
+        permitted_plain(table, e.node(), x)
+    }
+}
+
+// Whether setup x is permitted under a flagged edge to node k.
+fn permitted_flagged(table: &[u8], k: Node, x: Setup) -> bool
+    requires { ⌜ Within (now table) (k .0) ⌝ }
+    ensures { λ r. ⌜ r ≡ not (plain (wordAt (now (table .entry))) (k .0) (x .0)) ⌝ }
+{
+    if k.0 == 0 {
+        return false;
+    }
+    let e = branch_of(table, k, x);
+    if e.flagged() {
+        permitted_plain(table, e.node(), x)
+    } else {
+        permitted_flagged(table, e.node(), x)
+    }
+}
+
+// The edge by which setup x leaves node k.
+fn branch_of(table: &[u8], k: Node, x: Setup) -> Edge
+    requires { ⌜ (0 < k .0) × Within (now table) (k .0) ⌝ }
+    ensures { λ r. ⌜ r .value ≡ branch (wordAt (now (table .entry))) (k .0) (x .0) ⌝ }
+{
+    let record = diagram::record_at(table, k);
+    if (x.0 >> (record.height - 1)) % 2 == 1 {
+        return record.high;
+    }
+    record.low
+}
+
+// Whether setup x is permitted under edge e.
+fn permitted_under(table: &[u8], e: Edge, x: Setup) -> bool
+    requires { ⌜ Within (now table) (e .value / 2) ⌝ }
+    ensures { λ r. ⌜ r ≡ under (wordAt (now (table .entry))) (e .value) (x .0) ⌝ }
+{
+    if e.flagged() {
+        permitted_flagged(table, e.node(), x)
+    } else {
+        permitted_plain(table, e.node(), x)
+    }
+}
+
+// Tests whether a setup is permitted.
+pub fn test(table: &[u8], x: Setup, sheet: &mut [u8]) -> Tested
+    ensures { λ r. ⌜ (testedAs r ≡ testing (now (table .entry)) (x .0) (now (sheet .entry)))
+        × (now (sheet .exit) ≡ sheetAfter (now (table .entry)) (now (sheet .entry))) ⌝ }
+{
+    let checked = check(table, sheet);
+    let Checked::Table(_) = checked else {
+        return Tested::Refused(refusal_of(checked));
+    };
+    let header = diagram::header_of(table);
+    if 1 << header.settings <= x.0 {
+        return Tested::Refused(Refusal::SetupRange);
+    }
+    Tested::Permitted(permitted_under(table, header.root, x))
 }

@@ -71,3 +71,12 @@ module _ (w : Words) (n N : ℕ) (D : Ordered w n N) where
   pub else-lower : (k : ℕ) → 0 < k → k ≤ N → Lower w k (elseEdge w k)
   else-lower zero p l = absurd (omega arith)
   else-lower (suc k) p l = record { node = omega (arith, D .else-node k l); low = D .else-height k l }
+
+  -- the edge by which a setup leaves a node
+  pub branch-lower : (k x : ℕ) → 0 < k → k ≤ N → Lower w k (branch w k x)
+  branch-lower zero x p l = absurd (omega arith)
+  branch-lower (suc k) x p l = record { node = omega (arith, branch-node w n N D k x l); low = branch-height w n N D k x l }
+
+  pub plain-branch : (k x : ℕ) → 0 < k → k ≤ N → plain w k x ≡ under w (branch w k x) x
+  plain-branch zero x p l = absurd (omega arith)
+  plain-branch (suc k) x p l = plain-step w n N D k x l
