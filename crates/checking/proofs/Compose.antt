@@ -120,9 +120,11 @@ module _ (t s : List ℕ) (v : Verdict) (v-is : verdictAs v ≡ checkHeader t (l
   unfolding checking check andThen sheetAfter
   header-refused r q =
       let e : checkHeader t (length s / 8) (λ N. N + 1) ≡ refusal (numberOf r) (placeOf r) = sym header-is ∙ ap verdictAs q in
-      let a : checking t s ≡ refusal (numberOf r) (placeOf r) = rw e in
-      (sym a, sheet-kept (wordAt t) (nodes (wordAt t)) (checking t s) (numberOf r) (placeOf r) s
-      (rw a (numbered NotNine (numberOf r) (placeOf r) (header-numbered t (length s / 8) (λ N. N + 1) (numberOf r) (placeOf r) e))) a)
+      let a : checking t s ≡ refusal (numberOf r) (placeOf r) = rw e in (
+        sym a,
+        sheet-kept (wordAt t) (nodes (wordAt t)) (checking t s) (numberOf r) (placeOf r) s
+            (rw a (numbered NotNine (numberOf r) (placeOf r) (header-numbered t (length s / 8) (λ N. N + 1) (numberOf r) (placeOf r) e))) a,
+      )
 
   -- what the header's rules give to those after them
   module _ (passed : v ≡ Passed) where

@@ -5,3 +5,4 @@ pub mod Nodes
 pub mod Filling
 pub mod Compose
 pub mod Walking
+pub mod Accepting

@@ -52,7 +52,7 @@ unfolding wordAt beAt
 height-byte l k p f =
     let at : ℕ → ℕ = λ i. getD l (8 * k + i) 0 in
     let e : wordAt l k ≡ getD l (8 * k) 0 * 72057594037927936
-        + (at 1 * 281474976710656 + at 2 * 1099511627776 + at 3 * 4294967296 + at 4 * 16777216 + at 5 * 65536 + at 6 * 256 + at 7) =
+    + (at 1 * 281474976710656 + at 2 * 1099511627776 + at 3 * 4294967296 + at 4 * 16777216 + at 5 * 65536 + at 6 * 256 + at 7) =
     simp add-zero (omega arith) in
     sym (height-node (wordAt l) k p ∙ ap (λ (v : ℕ). v / 288230376151711744) e
     ∙ top-byte (getD l (8 * k) 0) _ (rest-fits (at 1) (at 2) (at 3) (at 4) (at 5) (at 6) (at 7) (f (8 * k + 1)) (f (8 * k + 2)) (f (8 * k + 3)) (f (8 * k + 4)) (f (8 * k + 5)) (f (8 * k + 6)) (f (8 * k + 7))))

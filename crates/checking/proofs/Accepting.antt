@@ -1,0 +1,117 @@
+-- An operation after the check: its refusal is handed on, and otherwise the table is accepted and the sheet holds the counts. Assumes nothing.
+use Prim.Native.Nat.{ℕ, _+_, _*_, _/_, _%_, _^_, _≤_, _<_}
+use mathlib.Core.Path.{_≡_, sym, ap, ap₂, _∙_}
+use mathlib.Core.Bool.{Bool, true, false, cond}
+use mathlib.Core.List.{List}
+use native.Mathlib.Omega.{arith}
+use native.Mathlib.Nat.{one-mul, mod-eq-of-lt}
+use lib.Dec.{leb}
+use lib.ListN.{length}
+use lib.Pow.{pow-lt}
+use borrow.Author.Tests.{le-leb, lt-leb}
+use Rattle.words.specs.Words.{wordAt, wordsOver}
+use Rattle.words.proofs.Laws.{words-read, length-wordsOver}
+use Rattle.diagram.specs.Format.{Words, settings, nodes, root, height}
+use Rattle.diagram.specs.Meaning.{under, permitted}
+use Rattle.diagram.specs.Count.{countBelow, place, total}
+use Rattle.diagram.specs.Answer.{Answer, value, refusal, andThen}
+use Rattle.diagram.specs.Ordered.{Holds, Accepted}
+use Rattle.diagram.specs.Reading.{IsHeader, Within}
+use Rattle.diagram.proofs.Paths.{height-le-settings}
+use Rattle.diagram.proofs.Accept.{check-accepted}
+use Rattle.checking.specs.declared.Checked.{Checked}
+use Rattle.checking.specs.declared.Checked.the-variants.{Table}
+use Rattle.checking.specs.declared.Shape.{Shape}
+use Rattle.checking.specs.Answers.{checkedAs}
+use Rattle.checking.specs.Operations.{checking, counting, testing, sheetBy, sheetAfter}
+use Rattle.checking.specs.Sheet.{Ready}
+use Rattle.checking.proofs.Places.{place-fits}
+
+module _ (t s out : List ℕ) (a : Checked) (is : (checkedAs a ≡ checking t s) × (out ≡ sheetAfter t s)) where
+  -- a refusal of the check is the operation's
+  pub handed-on : {B : Type 0} (f : ℕ × ℕ → Answer B) (number k : ℕ) → checkedAs a ≡ refusal number k → refusal number k ≡ andThen (checking t s) f
+  unfolding andThen
+  handed-on f number k e = sym (ap (λ b. andThen b f) (sym (is .0) ∙ e))
+
+  module _ (shape : Shape) (q : a ≡ Table shape) where
+    checking-is : checking t s ≡ value (shape .settings, shape .nodes)
+    checking-is = sym (is .0) ∙ ap checkedAs q
+
+    pub going-on : {B : Type 0} (f : ℕ × ℕ → Answer B) → andThen (checking t s) f ≡ f (shape .settings, shape .nodes)
+    unfolding andThen
+    going-on f = ap (λ b. andThen b f) checking-is
+
+    accepted : Accepted t (shape .settings) (shape .nodes) × (shape .nodes + 1 ≤ length s / 8)
+    unfolding checking
+    accepted = check-accepted t (length s / 8) (λ N. N + 1) (shape .settings) (shape .nodes) checking-is
+
+    pub table-long : 8 ≤ length t
+    table-long = omega (arith, accepted .0 .long)
+
+    -- with the header read again
+    module _ (n N e : ℕ) (h : IsHeader (wordAt t) n N e) where
+      abbrev w : Words
+      w = wordAt t
+
+      settings-is : shape .settings ≡ n
+      settings-is = sym (accepted .0 .has-settings) ∙ sym (h .settings-is)
+
+      nodes-is : shape .nodes ≡ N
+      nodes-is = sym (accepted .0 .has-nodes) ∙ sym (h .nodes-is)
+
+      pub table-holds : Holds t n N
+      table-holds =
+          let A = accepted .0 in
+          record {
+            long = omega (arith, A .long, nodes-is);
+            few = omega (arith, A .few, nodes-is);
+            few-settings = h .few-settings;
+            ordered = rw (← settings-is, ← nodes-is) (A .proper .reduced .ordered);
+          }
+
+      root-inside : e / 2 ≤ N
+      root-inside = omega (arith, ap (λ (r : ℕ). r / 2) (h .root-is), accepted .0 .root-node, nodes-is)
+
+      pub root-within : Within t (e / 2)
+      root-within = record { settings = n; nodes = N; holds = table-holds; inside = root-inside }
+
+      filled : out ≡ wordsOver (place w) (N + 1) s
+      unfolding sheetAfter sheetBy
+      filled = is .1 ∙ rw (checking-is, h .nodes-is)
+
+      -- the places hold the counts
+      pub root-ready : Ready t out (e / 2) (e / 2 + 1) × (height w (e / 2) ≤ n) × (n ≤ 63)
+      root-ready =
+          let H = table-holds in
+          let i = root-inside in
+          let low : (k : ℕ) → k ≤ N → height w k ≤ n = height-le-settings w n N (H .ordered) in
+          let m : 8 * (N + 1) ≤ length s = omega (arith, accepted .1, nodes-is) in (
+            record {
+              within = root-within;
+              room = omega (arith, ap length filled, length-wordsOver (place w) (N + 1) s m);
+              places = λ k l. ap (λ (x : List ℕ). wordAt x k) filled ∙ words-read (place w) (N + 1) s k (omega arith) (place-fits w k (omega (arith, low k (omega arith), h .few-settings)));
+            },
+            low (e / 2) i,
+            h .few-settings,
+          )
+
+      total-root : total w ≡ countBelow (under w e) (2 ^ n)
+      unfolding total permitted
+      total-root = ap₂ (λ (r m : ℕ). countBelow (under w r) (2 ^ m)) (sym (h .root-is)) (sym (h .settings-is))
+
+      -- counting
+      pub counted : (c : ℕ) → c ≡ countBelow (under w e) (2 ^ n) → value c ≡ counting t s
+      unfolding counting
+      counted c q′ = sym (going-on (λ _. value (total w)) ∙ ap value (total-root ∙ sym q′))
+
+      -- testing
+      power : 1 * 2 ^ n % 18446744073709551616 ≡ 2 ^ n
+      power = let l = h .few-settings in rw one-mul (mod-eq-of-lt (pow-lt {i = n} {j = 64} (omega arith)))
+
+      pub too-large : (x : ℕ) → 1 * 2 ^ n % 18446744073709551616 ≤ x → refusal 12 0 ≡ testing t x s
+      unfolding testing
+      too-large x l = sym (going-on (λ _. cond (leb (2 ^ settings w) x) (refusal 12 0) (value (permitted w x))) ∙ rw (← h .settings-is, le-leb (2 ^ n) x (rw power at l)))
+
+      pub tested : (x : ℕ) (b : Bool) → x < 1 * 2 ^ n % 18446744073709551616 → b ≡ under w e x → value b ≡ testing t x s
+      unfolding testing permitted
+      tested x b l q′ = sym (going-on (λ _. cond (leb (2 ^ settings w) x) (refusal 12 0) (value (permitted w x))) ∙ rw (← h .settings-is, lt-leb (2 ^ n) x (rw power at l), ← h .root-is, q′))
