@@ -2,3 +2,4 @@
 pub mod Answers
 pub mod Operations
 pub mod Sheet
+pub mod Packed

@@ -34,6 +34,52 @@ pub enum Refusal {
     SetupRange,
 }
 
+// The number of a refusal.
+pub fn number_of(refusal: Refusal) -> u64
+    ensures { λ r. ⌜ (r ≡ numberOf refusal) × (r < 32) ⌝ }
+{
+    match refusal {
+        Refusal::Length => 1,
+        Refusal::Nodes => 2,
+        Refusal::Root => 3,
+        Refusal::Height(_) => 4,
+        Refusal::Order(_) => 5,
+        Refusal::Target(_) => 6,
+        Refusal::ThenFlag(_) => 7,
+        Refusal::EqualEdges(_) => 8,
+        Refusal::Unnamed(_) => 9,
+        Refusal::Sheet => 10,
+        Refusal::SetupRange => 12,
+    }
+}
+
+// The place of a refusal.
+pub fn place_of(refusal: Refusal) -> usize
+    ensures { λ r. ⌜ r ≡ placeOf refusal ⌝ }
+{
+    match refusal {
+        Refusal::Length => 0,
+        Refusal::Nodes => 0,
+        Refusal::Root => 0,
+        Refusal::Height(k) => k.0,
+        Refusal::Order(k) => k.0,
+        Refusal::Target(k) => k.0,
+        Refusal::ThenFlag(k) => k.0,
+        Refusal::EqualEdges(k) => k.0,
+        Refusal::Unnamed(k) => k.0,
+        Refusal::Sheet => 0,
+        Refusal::SetupRange => 0,
+    }
+}
+
+// A refusal as one number: 2^63 + 2^32 × refusal + place.
+pub fn pack_refusal(refusal: Refusal) -> u64
+    requires { ⌜ placeOf refusal ≤ 65535 ⌝ }
+    ensures { λ r. ⌜ r ≡ 2 ^ 63 + 2 ^ 32 * numberOf refusal + placeOf refusal ⌝ }
+{
+    9223372036854775808 + 4294967296 * number_of(refusal) + (place_of(refusal) as u64)
+}
+
 // Some of the rules: they pass, or the first that does not.
 pub enum Verdict {
     Passed,

@@ -9,3 +9,4 @@ pub mod Canonical
 pub mod AnswerLaws
 pub mod Accept
 pub mod Fields
+pub mod Refusals

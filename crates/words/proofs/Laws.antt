@@ -28,6 +28,16 @@ pub put-stores : (l : List ℕ) (k v : ℕ) → 8 * k + 8 ≤ length l
 unfolding putWord bytesOf
 put-stores l k v h = simp (towards-suc, div-one) (simp (towards-suc, div-one) at (sets-eq (bytesOf 8 v) l (8 * k) h))
 
+-- a word of bytes fits 64 bits
+be-fits : (l : List ℕ) → ((i : ℕ) → getD l i 0 < 256) → (at m : ℕ) → beAt l at m < 256 ^ m
+unfolding beAt
+be-fits l f at zero = lit< tt
+be-fits l f at (suc m) = rw (pow-suc 256 m) (omega (arith, be-fits l f at m, f (at + m)))
+
+pub word-fits : (l : List ℕ) (k : ℕ) → ((i : ℕ) → getD l i 0 < 256) → wordAt l k < 2 ^ 64
+unfolding wordAt
+word-fits l k f = be-fits l f (8 * k) 8
+
 length-bytesOf : (m v : ℕ) → length (bytesOf m v) ≡ m
 unfolding bytesOf
 length-bytesOf zero v = refl

@@ -1,0 +1,92 @@
+-- Which refusals the rules can give: 9 only from rule 9, and no place above N. Assumes nothing.
+use Prim.Native.Nat.{ℕ, zero, suc, _+_, _-_, _*_, _/_, _%_, _≤_, _<_}
+use mathlib.Core.Path.{_≡_, refl, sym, subst}
+use mathlib.Core.Bool.{Bool, true, false, not, cond, _&&_, _||_}
+use mathlib.Core.List.{List}
+use native.Mathlib.Omega.{arith}
+use lib.Dec.{eqb, ltb, leb}
+use lib.ListN.{length}
+use Rattle.words.specs.Words.{wordAt}
+use Rattle.diagram.specs.Format.{Words, settings, nodes, root, height, thenEdge, elseEdge}
+use Rattle.diagram.specs.Answer.{Answer, value, refusal, andThen, pass, each}
+use Rattle.diagram.specs.Rules.{misled, checkRecord, named, checkNamed, checkHeader, checkRecords, checkNames, checkDiagram, check}
+use Rattle.diagram.proofs.AnswerLaws.{refused-not}
+use Rattle.diagram.proofs.Accept.{headed}
+
+-- a refusal, if there is one, has a number and a place of which Q holds
+abbrev pub Refuses : {A : Type 0} → (ℕ → ℕ → Type 0) → Answer A → Type 0
+Refuses Q a = (number place : ℕ) → a ≡ refusal number place → Q number place
+
+pub refuses : {A : Type 0} (Q : ℕ → ℕ → Type 0) (number place : ℕ) → Q number place → Refuses {A = A} Q (refusal number place)
+refuses Q number place q r p e =
+    let s : number ≡ r = cc in
+    let t : place ≡ p = cc in
+    subst (λ (p : ℕ). Q r p) t (subst (λ (r : ℕ). Q r place) s q)
+
+passes : {A : Type 0} (Q : ℕ → ℕ → Type 0) (a : A) → Refuses Q (value a)
+passes Q a r p e = absurd (refused-not (sym e))
+
+unless : {A : Type 0} (Q : ℕ → ℕ → Type 0) (b : Bool) (number place : ℕ) {next : Answer A} → Q number place → Refuses Q next → Refuses Q (cond b (refusal number place) next)
+unless Q true number place q h = refuses Q number place q
+unless Q false number place q h = h
+
+-- one check after another, and a run of them
+then-refuses : {B : Type 0} (Q : ℕ → ℕ → Type 0) (a : Answer (Unit {0})) (f : Unit {0} → Answer B) → Refuses Q a → (a ≡ pass → Refuses Q (f tt)) → Refuses Q (andThen a f)
+unfolding andThen
+then-refuses Q (value u) f p h = h refl
+then-refuses Q (refusal number place) f p h = refuses Q number place (p number place refl)
+
+each-refuses : (Q : ℕ → ℕ → Type 0) (f : ℕ → Answer (Unit {0})) (m : ℕ) → ((k : ℕ) → k < m → Refuses Q (f k)) → Refuses Q (each f m)
+unfolding each
+each-refuses Q f zero h = passes Q tt
+each-refuses Q f (suc m) h = then-refuses Q (each f m) (λ _. f m) (each-refuses Q f m (λ k l. h k (omega arith))) (λ e. h m (omega arith))
+
+-- another number than 9, at a place up to N
+abbrev pub Early : ℕ → ℕ → ℕ → Type 0
+Early N number place = (number ≡ 9 → ⊥) × (place ≤ N)
+
+-- 9, at a place up to N
+abbrev pub Nine : ℕ → ℕ → ℕ → Type 0
+Nine N number place = (number ≡ 9) × (place ≤ N)
+
+pub header-refuses : (bytes : List ℕ) (lent : ℕ) (need : ℕ → ℕ) → Refuses (Early 0) (checkHeader bytes lent need)
+unfolding checkHeader
+header-refuses bytes lent need =
+    let w = wordAt bytes in
+    unless (Early 0) (ltb (length bytes) 8) 1 0 (λ e. omega arith, omega arith)
+    (unless (Early 0) (ltb 65535 (nodes w)) 2 0 (λ e. omega arith, omega arith)
+    (unless (Early 0) (not (eqb (length bytes) (8 * (nodes w + 1)))) 1 0 (λ e. omega arith, omega arith)
+    (unless (Early 0) (not (eqb (root w / 2) (nodes w))) 3 0 (λ e. omega arith, omega arith)
+    (unless (Early 0) (ltb lent (need (nodes w))) 10 0 (λ e. omega arith, omega arith)
+    (passes (Early 0) tt)))))
+
+pub records-refuse : (w : Words) (n N : ℕ) → Refuses (Early N) (checkRecords w n N)
+unfolding checkRecords checkRecord
+records-refuse w n N = each-refuses (Early N) (λ k. checkRecord w n (suc k)) N λ i l.
+    let k = suc i in
+    unless (Early N) (eqb (height w k) 0 || ltb n (height w k)) 4 k (λ e. omega arith, l)
+    (unless (Early N) (ltb 1 k && leb (w k) (w (k - 1))) 5 k (λ e. omega arith, l)
+    (unless (Early N) (misled w k (thenEdge w k) || misled w k (elseEdge w k)) 6 k (λ e. omega arith, l)
+    (unless (Early N) (eqb (thenEdge w k % 2) 1) 7 k (λ e. omega arith, l)
+    (unless (Early N) (eqb (thenEdge w k) (elseEdge w k)) 8 k (λ e. omega arith, l)
+    (passes (Early N) tt)))))
+
+pub names-refuse : (w : Words) (N : ℕ) → Refuses (Nine N) (checkNames w N)
+unfolding checkNames checkNamed
+names-refuse w N = each-refuses (Nine N) (λ k. checkNamed w N (suc k)) (N - 1) λ k l. go (named w N (suc k)) (suc k) (omega arith)
+  where
+    go : (b : Bool) (k : ℕ) → k ≤ N → Refuses (Nine N) (cond b pass (refusal 9 k))
+    go true k l = passes (Nine N) tt
+    go false k l = refuses (Nine N) 9 k (refl, l)
+
+-- no place is above 65,535
+pub check-place : (bytes : List ℕ) (lent : ℕ) (need : ℕ → ℕ) → Refuses (λ number place. place ≤ 65535) (check bytes lent need)
+unfolding check checkDiagram
+check-place bytes lent need =
+    let w = wordAt bytes in
+    let Low : ℕ → ℕ → Type 0 = λ number place. place ≤ 65535 in
+    then-refuses Low (checkHeader bytes lent need) _ (λ r p e. omega (arith, header-refuses bytes lent need r p e .1)) λ ok.
+    then-refuses Low (checkDiagram w (settings w) (nodes w)) _
+    (then-refuses Low (checkRecords w (settings w) (nodes w)) _ (λ r p e. omega (arith, records-refuse w (settings w) (nodes w) r p e .1, headed bytes lent need ok .few))
+    λ _ r p e. omega (arith, names-refuse w (nodes w) r p e .1, headed bytes lent need ok .few))
+    λ _. passes Low (settings w, nodes w)
