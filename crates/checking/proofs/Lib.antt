@@ -6,3 +6,4 @@ pub mod Filling
 pub mod Compose
 pub mod Walking
 pub mod Accepting
+pub mod Bounds

@@ -23,23 +23,23 @@ refuses Q number place q r p e =
     let t : place ≡ p = cc in
     subst (λ (p : ℕ). Q r p) t (subst (λ (r : ℕ). Q r place) s q)
 
-passes : {A : Type 0} (Q : ℕ → ℕ → Type 0) (a : A) → Refuses Q (value a)
+pub passes : {A : Type 0} (Q : ℕ → ℕ → Type 0) (a : A) → Refuses Q (value a)
 passes Q a r p e = absurd (refused-not (sym e))
 
-unless : {A : Type 0} (Q : ℕ → ℕ → Type 0) (b : Bool) (number place : ℕ) {next : Answer A} → Q number place → Refuses Q next → Refuses Q (cond b (refusal number place) next)
+pub unless : {A : Type 0} (Q : ℕ → ℕ → Type 0) (b : Bool) (number place : ℕ) {next : Answer A} → Q number place → Refuses Q next → Refuses Q (cond b (refusal number place) next)
 unless Q true number place q h = refuses Q number place q
 unless Q false number place q h = h
 
--- one check after another, and a run of them
-then-refuses : {B : Type 0} (Q : ℕ → ℕ → Type 0) (a : Answer (Unit {0})) (f : Unit {0} → Answer B) → Refuses Q a → (a ≡ pass → Refuses Q (f tt)) → Refuses Q (andThen a f)
+-- one step after another, and a run of checks
+pub then-refuses : {A B : Type 0} (Q : ℕ → ℕ → Type 0) (a : Answer A) (f : A → Answer B) → Refuses Q a → ((v : A) → a ≡ value v → Refuses Q (f v)) → Refuses Q (andThen a f)
 unfolding andThen
-then-refuses Q (value u) f p h = h refl
+then-refuses Q (value v) f p h = h v refl
 then-refuses Q (refusal number place) f p h = refuses Q number place (p number place refl)
 
 each-refuses : (Q : ℕ → ℕ → Type 0) (f : ℕ → Answer (Unit {0})) (m : ℕ) → ((k : ℕ) → k < m → Refuses Q (f k)) → Refuses Q (each f m)
 unfolding each
 each-refuses Q f zero h = passes Q tt
-each-refuses Q f (suc m) h = then-refuses Q (each f m) (λ _. f m) (each-refuses Q f m (λ k l. h k (omega arith))) (λ e. h m (omega arith))
+each-refuses Q f (suc m) h = then-refuses Q (each f m) (λ _. f m) (each-refuses Q f m (λ k l. h k (omega arith))) (λ _ e. h m (omega arith))
 
 -- another number than 9, at a place up to N
 abbrev pub Early : ℕ → ℕ → ℕ → Type 0
@@ -85,8 +85,8 @@ unfolding check checkDiagram
 check-place bytes lent need =
     let w = wordAt bytes in
     let Low : ℕ → ℕ → Type 0 = λ number place. place ≤ 65535 in
-    then-refuses Low (checkHeader bytes lent need) _ (λ r p e. omega (arith, header-refuses bytes lent need r p e .1)) λ ok.
+    then-refuses Low (checkHeader bytes lent need) _ (λ r p e. omega (arith, header-refuses bytes lent need r p e .1)) λ _ ok.
     then-refuses Low (checkDiagram w (settings w) (nodes w)) _
     (then-refuses Low (checkRecords w (settings w) (nodes w)) _ (λ r p e. omega (arith, records-refuse w (settings w) (nodes w) r p e .1, headed bytes lent need ok .few))
-    λ _ r p e. omega (arith, names-refuse w (nodes w) r p e .1, headed bytes lent need ok .few))
-    λ _. passes Low (settings w, nodes w)
+    λ _ _ r p e. omega (arith, names-refuse w (nodes w) r p e .1, headed bytes lent need ok .few))
+    λ _ _. passes Low (settings w, nodes w)

@@ -1,0 +1,39 @@
+-- What the operations answer fits the packed form: places up to 65,535, n up to 63 and N up to 65,535. Assumes nothing.
+use Prim.Native.Nat.{ℕ, _+_, _/_, _^_, _≤_, _<_}
+use mathlib.Core.Path.{_≡_, sym, _∙_}
+use mathlib.Core.List.{List}
+use native.Mathlib.Omega.{arith}
+use lib.Dec.{leb}
+use lib.ListN.{length, getD}
+use Rattle.words.specs.Words.{wordAt}
+use Rattle.words.proofs.Laws.{word-fits}
+use Rattle.diagram.specs.Format.{settings, highField}
+use Rattle.diagram.specs.Meaning.{permitted}
+use Rattle.diagram.specs.Count.{total}
+use Rattle.diagram.specs.Answer.{Answer, value, refusal, andThen}
+use Rattle.diagram.proofs.Accept.{check-accepted}
+use Rattle.diagram.proofs.Refusals.{Refuses, passes, unless, then-refuses, check-place}
+use Rattle.checking.specs.Operations.{checking, counting, testing}
+
+abbrev pub Low : ℕ → ℕ → Type 0
+Low number place = place ≤ 65535
+
+pub checking-place : (t s : List ℕ) → Refuses Low (checking t s)
+unfolding checking
+checking-place t s = check-place t (length s / 8) (λ N. N + 1)
+
+pub counting-place : (t s : List ℕ) → Refuses Low (counting t s)
+unfolding counting
+counting-place t s = then-refuses Low (checking t s) _ (checking-place t s) (λ _ _. passes Low (total (wordAt t)))
+
+pub testing-place : (t : List ℕ) (x : ℕ) (s : List ℕ) → Refuses Low (testing t x s)
+unfolding testing
+testing-place t x s =
+    then-refuses Low (checking t s) _ (checking-place t s)
+    (λ _ _. unless Low (leb (2 ^ settings (wordAt t)) x) 12 0 (omega arith) (passes Low (permitted (wordAt t) x)))
+
+pub shape-fits : (t s : List ℕ) (n N : ℕ) → ((i : ℕ) → getD t i 0 < 256) → value (n, N) ≡ checking t s → (n ≤ 63) × (N ≤ 65535)
+unfolding checking settings highField
+shape-fits t s n N f e =
+    let A = check-accepted t (length s / 8) (λ N. N + 1) n N (sym e) .0 in
+    (omega (arith, A .has-settings, word-fits t 0 f), A .few)

@@ -1,0 +1,34 @@
+-- `harness::setupbook_test` meets its contract. Assumes nothing.
+use mathlib.Core.Path.{_≡_, refl, sym, ap, _∙_}
+use mathlib.Core.Bool.{Bool, true, false}
+use mir.Val.{boolByte}
+use borrow.Author.Needs.{needs}
+use Rattle.diagram.specs.Count.{indicator}
+use Rattle.checking.specs.Answers.{testedAs}
+use Rattle.checking.specs.Packed.{packed}
+use Rattle.checking.proofs.Bounds.{testing-place}
+use Rattle.harness.proofs.setupbook_test.Statement.{statement}
+use Rattle.harness.proofs.setupbook_test.Tie as tie
+
+bool-byte : (b : Bool) → boolByte b ≡ indicator b
+unfolding indicator
+bool-byte true = refl
+bool-byte false = refl
+
+pack-refusal-requires : tie.Need-pack-refusal-requires
+pack-refusal-requires c κs = testing-place _ _ _ _ _ (sym (c .before .before .before .before .before .test .ensures .0) ∙ ap testedAs (c .before .tested2 .given .1))
+
+returns : tie.Need-returns
+unfolding packed
+returns c =
+    let e = c .before .before .before .before .before .test .ensures in
+    (bool-byte _ ∙ sym (ap (packed indicator) (sym (e .0) ∙ ap testedAs (c .before .tested .given .1))), e .1)
+
+returns-2 : tie.Need-returns-2
+unfolding packed
+returns-2 c = let e = c .before .before .before .before .before .before .test .ensures in (c .pack-refusal .ensures ∙ sym (ap (packed _) (sym (e .0) ∙ ap testedAs (c .before .before .tested2 .given .1))), e .1)
+
+pub setupbook-test-spec : {M : Type 1} → statement M
+setupbook-test-spec =
+    tie.close
+    (tie.spec (λ c κs. search needs) (λ c. search needs) (λ c. search needs) (λ c. search needs) pack-refusal-requires (λ c. search needs) returns (λ c. search needs) returns-2)

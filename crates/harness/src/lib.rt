@@ -1,0 +1,49 @@
+// Checking, counting and testing for C, each answer packed into one number. For the outside tests only.
+ghost use mathlib.Core.Path.{_≡_};
+ghost use Prim.Native.Nat.{ℕ, _+_, _*_, _^_};
+ghost use Rattle.diagram.specs.Count.{indicator};
+ghost use Rattle.checking.specs.Operations.{checking, counting, testing, sheetAfter};
+ghost use Rattle.checking.specs.Packed.{packed};
+use checking::Checked;
+use checking::Counted;
+use checking::Tested;
+use diagram::Setup;
+
+// 2^32 × n + N.
+#[no_mangle]
+pub extern "C" fn setupbook_check(table: &[u8], sheet: &mut [u8]) -> u64
+    ensures { λ r. ⌜ (r ≡ packed (λ v. 2 ^ 32 * v .0 + v .1) (checking (now (table .entry)) (now (sheet .entry))))
+        × (now (sheet .exit) ≡ sheetAfter (now (table .entry)) (now (sheet .entry))) ⌝ }
+{
+    let checked = checking::check(table, sheet);
+    match checked {
+        Checked::Table(shape) => 4294967296 * shape.settings + (shape.nodes as u64),
+        Checked::Refused(r) => checking::pack_refusal(r),
+    }
+}
+
+// C.
+#[no_mangle]
+pub extern "C" fn setupbook_count(table: &[u8], sheet: &mut [u8]) -> u64
+    ensures { λ r. ⌜ (r ≡ packed (λ (c : ℕ). c) (counting (now (table .entry)) (now (sheet .entry))))
+        × (now (sheet .exit) ≡ sheetAfter (now (table .entry)) (now (sheet .entry))) ⌝ }
+{
+    let counted = checking::count(table, sheet);
+    match counted {
+        Counted::Total(c) => c,
+        Counted::Refused(r) => checking::pack_refusal(r),
+    }
+}
+
+// 1 if the setup is permitted, 0 if not.
+#[no_mangle]
+pub extern "C" fn setupbook_test(table: &[u8], setup: u64, sheet: &mut [u8]) -> u64
+    ensures { λ r. ⌜ (r ≡ packed indicator (testing (now (table .entry)) setup (now (sheet .entry))))
+        × (now (sheet .exit) ≡ sheetAfter (now (table .entry)) (now (sheet .entry))) ⌝ }
+{
+    let tested = checking::test(table, Setup(setup), sheet);
+    match tested {
+        Tested::Permitted(b) => b as u64,
+        Tested::Refused(r) => checking::pack_refusal(r),
+    }
+}
