@@ -24,7 +24,7 @@ use Rattle.checking.specs.declared.Checked.the-variants.{Table}
 use Rattle.checking.specs.declared.Shape.{Shape}
 use Rattle.checking.specs.Answers.{checkedAs}
 use Rattle.checking.specs.Operations.{checking, counting, testing, sheetBy, sheetAfter}
-use Rattle.checking.specs.Sheet.{Ready}
+use Rattle.checking.specs.Inner.{Ready}
 use Rattle.checking.proofs.Places.{place-fits}
 
 module _ (t s out : List ℕ) (a : Checked) (is : (checkedAs a ≡ checking t s) × (out ≡ sheetAfter t s)) where

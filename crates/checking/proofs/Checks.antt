@@ -18,7 +18,7 @@ use Rattle.checking.specs.declared.Refusal.{Refusal}
 use Rattle.checking.specs.declared.Verdict.{Verdict}
 use Rattle.checking.specs.declared.Verdict.the-variants.{Passed, Refused}
 use Rattle.checking.specs.Answers.{numberOf, placeOf, verdictAs}
-use Rattle.checking.specs.Sheet.{Marked, checkMarks}
+use Rattle.checking.specs.Inner.{Marked, checkMarks}
 
 -- the places that are needed, counted in 64 bits
 pub need-fits : (each N : ℕ) → each ≤ 64 → N ≤ 65535 → each * N ≤ 4194240

@@ -11,7 +11,7 @@ use Rattle.diagram.specs.Format.{Words}
 use Rattle.diagram.specs.Count.{place}
 use Rattle.diagram.specs.Ordered.{Holds}
 use Rattle.diagram.proofs.Paths.{height-le-settings}
-use Rattle.checking.specs.Sheet.{Ready}
+use Rattle.checking.specs.Inner.{Ready}
 use Rattle.checking.proofs.Places.{place-fits, place-sink}
 
 module _ (t : List ℕ) (n N : ℕ) (H : Holds t n N) where
@@ -43,12 +43,9 @@ module _ (t : List ℕ) (n N : ℕ) (H : Holds t n N) where
       places = λ i j. ap (λ (x : List ℕ). wordAt x i) so-far ∙ words-read (place w) (k + 1) s₀ i j (fits i (omega arith));
     }
 
-    pub fill-room : 8 * (k + 1) + 8 ≤ length s
-    fill-room = omega (arith, long)
-
-    pub fill-next : (s′ : List ℕ) (c : ℕ) → c ≡ place w (k + 1) → s′ ≡ putWord s (k + 1) c → s′ ≡ wordsOver (place w) (k + 1 + 1) s₀
-    fill-next s′ c e q =
-        q ∙ ap₂ (λ (x : List ℕ) (v : ℕ). putWord x (k + 1) v) so-far e ∙ put-next (place w) (k + 1) s₀ (omega arith)
+    pub fill-next : (s′ : List ℕ) → s′ ≡ putWord s (k + 1) (place w (k + 1)) → s′ ≡ wordsOver (place w) (k + 1 + 1) s₀
+    fill-next s′ q =
+        q ∙ ap (λ (x : List ℕ). putWord x (k + 1) (place w (k + 1))) so-far ∙ put-next (place w) (k + 1) s₀ (omega arith)
         ∙ ap (λ (m : ℕ). wordsOver (place w) m s₀) (sym (add-one (k + 1)))
 
   -- after the loop

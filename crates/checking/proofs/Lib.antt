@@ -7,3 +7,4 @@ pub mod Compose
 pub mod Walking
 pub mod Accepting
 pub mod Bounds
+pub mod Records

@@ -18,7 +18,7 @@ use Rattle.diagram.specs.Ordered.{Ordered}
 use Rattle.diagram.specs.Reading.{IsRecord, Within}
 use Rattle.diagram.proofs.Paths.{Lower, tall-node, then-lower, else-lower}
 use Rattle.diagram.proofs.Counts.{place-node}
-use Rattle.checking.specs.Sheet.{Ready, Marked}
+use Rattle.checking.specs.Inner.{Ready, Marked}
 use Rattle.checking.proofs.Places.{place-fits}
 
 -- node k, with its record, where the places below it are filled
@@ -84,26 +84,26 @@ mark-set m v j b l e = go (eqb v j) refl
     go true q = rw (← (eqb-true v j q)) (getD-set-same m v 1 0 l) ∙ ap indicator (sym (or-either b refl))
     go false q = getD-set-other m v j 1 0 (λ r. eqb-false v j q (sym r)) ∙ e ∙ ap indicator (sym (or-false b))
 
--- the nodes that record k names, v of its high edge and u of its low edge, are marked
-module _ (t m : List ℕ) (k h a b v u : ℕ) (p : 0 < k) (W : Within t k) (r : IsRecord (wordAt t) k h a b) (v-is : v ≡ a / 2) (u-is : u ≡ b / 2) where
+-- the nodes that record k names are below it, and are marked
+module _ (t m : List ℕ) (k h a b : ℕ) (p : 0 < k) (W : Within t k) (r : IsRecord (wordAt t) k h a b) where
   abbrev words : Words
   words = wordAt t
 
   ordered : Ordered words (W .settings) (W .nodes)
   ordered = W .holds .ordered
 
-  pub high-below : v < k
-  high-below = rw (v-is, r .then-is) (then-lower words (W .settings) (W .nodes) ordered k p (W .inside) .node)
+  pub high-below : a / 2 < k
+  high-below = rw (r .then-is) (then-lower words (W .settings) (W .nodes) ordered k p (W .inside) .node)
 
-  pub low-below : u < k
-  low-below = rw (u-is, r .else-is) (else-lower words (W .settings) (W .nodes) ordered k p (W .inside) .node)
+  pub low-below : b / 2 < k
+  low-below = rw (r .else-is) (else-lower words (W .settings) (W .nodes) ordered k p (W .inside) .node)
 
-  pub marks-next : k < length m → Marked m (k - 1) words → Marked (set (set m v 1) u 1) k words
+  pub marks-next : k < length m → Marked m (k - 1) words → Marked (set (set m (a / 2) 1) (b / 2) 1) k words
   unfolding names
   marks-next l q j i =
-      let o : length (set (set m v 1) u 1) ≡ length m = simp length-set in
-      let n : length (set m v 1) ≡ length m = simp length-set in
-      let e : names words k j ≡ (eqb v j || eqb u j) = rw (v-is, u-is, r .then-is, r .else-is) in
+      let o : length (set (set m (a / 2) 1) (b / 2) 1) ≡ length m = simp length-set in
+      let n : length (set m (a / 2) 1) ≡ length m = simp length-set in
+      let e : names words k j ≡ (eqb (a / 2) j || eqb (b / 2) j) = rw (r .then-is, r .else-is) in
       let s = named words (k - 1) j in
-      mark-set (set m v 1) u j (s || eqb v j) (omega (arith, low-below)) (mark-set m v j s (omega (arith, high-below)) (q j (omega arith)))
-      ∙ ap indicator (sym (named-next words k j p ∙ ap (λ c. s || c) e ∙ sym (or-assoc s (eqb v j) (eqb u j))))
+      mark-set (set m (a / 2) 1) (b / 2) j (s || eqb (a / 2) j) (omega (arith, low-below)) (mark-set m (a / 2) j s (omega (arith, high-below)) (q j (omega arith)))
+      ∙ ap indicator (sym (named-next words k j p ∙ ap (λ c. s || c) e ∙ sym (or-assoc s (eqb (a / 2) j) (eqb (b / 2) j))))

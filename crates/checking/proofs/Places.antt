@@ -14,7 +14,7 @@ use Rattle.diagram.specs.Meaning.{plain, holds, under}
 use Rattle.diagram.specs.Count.{indicator, countBelow, place}
 use Rattle.diagram.proofs.CountLaws.{count-le}
 use Rattle.diagram.proofs.Counts.{opposite, edgeCount, count-edge}
-use Rattle.checking.specs.Sheet.{Ready}
+use Rattle.checking.specs.Inner.{Ready}
 
 -- edge e from height h, where v is its node, and g and c are the node's height and count as they are read
 module _ (t s : List ℕ) (e h v g c : ℕ) (R : Ready t s (e / 2) (e / 2 + 1) × (height (wordAt t) (e / 2) ≤ h) × (h ≤ 63)) (v-is : v ≡ e / 2) (g-is : g ≡ height (wordAt t) v) (c-is : c ≡ wordAt s v) where

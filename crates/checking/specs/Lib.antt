@@ -1,5 +1,5 @@
 -- What the operations answer and leave in the sheet.
 pub mod Answers
 pub mod Operations
-pub mod Sheet
+pub mod Inner
 pub mod Packed

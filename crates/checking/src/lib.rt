@@ -1,22 +1,22 @@
 // Checking, counting and testing. No operation has a `requires`: every table, sheet and setup gets its answer or its refusal.
 ghost use mathlib.Core.Path.{_≡_};
-ghost use mathlib.Core.Bool.{not, _&&_};
+ghost use mathlib.Core.Bool.{not};
 ghost use Prim.Native.Nat.{_+_, _-_, _*_, _/_, _%_, _≤_, _<_, _^_};
-ghost use lib.Dec.{ltb, leb};
-ghost use lib.ListN.{length, getD};
-ghost use Rattle.words.specs.Words.{wordAt, wordsOver};
+ghost use lib.ListN.{length, set};
+ghost use Rattle.words.specs.Words.{wordAt, putWord, wordsOver};
 ghost use Rattle.diagram.specs.Format.{height};
 ghost use Rattle.diagram.specs.Meaning.{branch, plain, under};
 ghost use Rattle.diagram.specs.Count.{countBelow, place};
 ghost use Rattle.diagram.specs.Answer.{refusal};
 ghost use Rattle.diagram.specs.Rules.{misled, checkRecord, checkHeader, checkRecords, checkNames, checkDiagram};
 ghost use Rattle.diagram.specs.Ordered.{Holds};
-ghost use Rattle.diagram.specs.Reading.{Within};
+ghost use Rattle.diagram.specs.Reading.{IsRecord, Within};
 ghost use Rattle.checking.specs.Answers.{numberOf, placeOf, verdictAs, checkedAs, countedAs, testedAs, IsRefused};
 ghost use Rattle.checking.specs.Operations.{checking, counting, testing, sheetBy, sheetAfter};
-ghost use Rattle.checking.specs.Sheet.{Ready, Marked, checkMarks};
+ghost use Rattle.checking.specs.Inner.{previous, Ready, Marked, checkMarks};
 use diagram::Edge;
 use diagram::Node;
+use diagram::Record;
 use diagram::Setup;
 
 // Why an operation is refused, and at which record.
@@ -132,17 +132,6 @@ fn check_header(table: &[u8], places: usize, each: usize, more: usize) -> Verdic
     Verdict::Passed
 }
 
-// Whether record k is not above the one before it.
-fn falls(table: &[u8], k: usize) -> bool
-    requires { ⌜ (0 < k) × (8 * k + 8 ≤ length (now table)) ⌝ }
-    ensures { λ r. ⌜ r ≡ (ltb 1 k && leb (wordAt (now (table .entry)) k) (wordAt (now (table .entry)) (k - 1))) ⌝ }
-{
-    if k <= 1 {
-        return false;
-    }
-    words::word_at(table, k) <= words::word_at(table, k - 1)
-}
-
 // Whether edge e of record k, of height h, leads to a node not below k or to one not below h.
 fn is_misled(table: &[u8], k: usize, h: u64, e: Edge) -> bool
     requires { ⌜ (h ≡ height (wordAt (now table)) k) × (8 * k + 8 ≤ length (now table)) ⌝ }
@@ -155,12 +144,12 @@ fn is_misled(table: &[u8], k: usize, h: u64, e: Edge) -> bool
     h <= diagram::height_at(table, node)
 }
 
-// Rules 4 to 8, of record k.
-fn check_record(table: &[u8], n: u64, k: usize) -> Verdict
-    requires { ⌜ (0 < k) × (8 * k + 8 ≤ length (now table)) ⌝ }
+// Rules 4 to 8, of record k, which is `word` and comes after `before`.
+fn check_record(table: &[u8], n: u64, k: usize, word: u64, before: u64) -> Verdict
+    requires { ⌜ (0 < k) × (8 * k + 8 ≤ length (now table)) × (word ≡ wordAt (now table) k) × (before ≡ previous (wordAt (now table)) k) ⌝ }
     ensures { λ r. ⌜ verdictAs r ≡ checkRecord (wordAt (now (table .entry))) n k ⌝ }
 {
-    let record = diagram::record_at(table, Node(k));
+    let record = Record::of(word);
     let h = record.height;
     if h == 0 {
         return Verdict::Refused(Refusal::Height(Node(k)));
@@ -168,7 +157,7 @@ fn check_record(table: &[u8], n: u64, k: usize) -> Verdict
     if n < h {
         return Verdict::Refused(Refusal::Height(Node(k)));
     }
-    if falls(table, k) {
+    if word <= before {
         return Verdict::Refused(Refusal::Order(Node(k)));
     }
     if is_misled(table, k, h, record.high) {
@@ -186,18 +175,34 @@ fn check_record(table: &[u8], n: u64, k: usize) -> Verdict
     Verdict::Passed
 }
 
+// Word k + 1, or any one where there is none. Loops read a record a turn ahead: it is then one load.
+fn word_after(table: &[u8], k: usize, nodes: usize) -> u64
+    requires { ⌜ (8 * nodes + 8 ≤ length (now table)) × (k ≤ nodes) ⌝ }
+    ensures { λ r. ⌜ (k < nodes → r ≡ wordAt (now (table .entry)) (k + 1)) × (r < 18446744073709551616) ⌝ }
+{
+    let mut i = k;
+    if k < nodes {
+        i = k + 1;
+    }
+    words::word_at(table, i)
+}
+
 // Rules 4 to 8, of records 1 to N upward.
 fn check_records(table: &[u8], n: u64, nodes: usize) -> Verdict
     requires { ⌜ 8 * nodes + 8 ≤ length (now table) ⌝ }
     ensures { λ r. ⌜ verdictAs r ≡ checkRecords (wordAt (now (table .entry))) n nodes ⌝ }
 {
+    let mut before = 0;
+    let mut word = word_after(table, 0, nodes);
     let mut k = 0;
     while k < nodes {
-        let verdict = check_record(table, n, k + 1);
+        k += 1;
+        let verdict = check_record(table, n, k, word, before);
         let Verdict::Passed = verdict else {
             return verdict;
         };
-        k += 1;
+        before = word;
+        word = word_after(table, k, nodes);
     }
     Verdict::Passed
 }
@@ -216,26 +221,38 @@ fn count_edge(table: &[u8], sheet: &[u8], e: Edge, h: u64) -> u64
     c << (h - g)
 }
 
-// The count of node k, by the places of the nodes below it.
-fn count_node(table: &[u8], sheet: &[u8], k: usize) -> u64
-    requires { ⌜ (0 < k) × Ready (now table) (now sheet) k k ⌝ }
+// The count of node k, by the fields of its record and the places of the nodes below it.
+fn count_node(table: &[u8], sheet: &[u8], k: usize, fields: Record) -> u64
+    requires { ⌜ (0 < k) × Ready (now table) (now sheet) k k
+        × IsRecord (wordAt (now table)) k (fields .height) (fields .high .value) (fields .low .value) ⌝ }
     ensures { λ r. ⌜ (r ≡ place (wordAt (now (table .entry))) k) × (r < 18446744073709551616) ⌝ }
 {
-    let record = diagram::record_at(table, Node(k));
-    let h = record.height - 1;
-    count_edge(table, sheet, record.low, h) + count_edge(table, sheet, record.high, h)
+    let h = fields.height - 1;
+    count_edge(table, sheet, fields.low, h) + count_edge(table, sheet, fields.high, h)
 }
 
-// Marks the nodes that record k names.
-fn mark_named(table: &[u8], marks: &mut [u8], k: usize)
-    requires { ⌜ (0 < k) × Within (now table) k × (k < length (now marks)) × Marked (now marks) (k - 1) (wordAt (now table)) ⌝ }
-    ensures { λ _. ⌜ (length (now (marks .exit)) ≡ length (now (marks .entry))) × Marked (now (marks .exit)) k (wordAt (now (table .entry))) ⌝ }
+// Marks the nodes that a record of these fields names.
+fn mark_named(marks: &mut [u8], fields: Record)
+    requires { ⌜ (fields .high .value / 2 < length (now marks)) × (fields .low .value / 2 < length (now marks)) ⌝ }
+    ensures { λ _. ⌜ now (marks .exit) ≡ set (set (now (marks .entry)) (fields .high .value / 2) 1) (fields .low .value / 2) 1 ⌝ }
 {
-    let record = diagram::record_at(table, Node(k));
-    let a = record.high.node().0;
-    let b = record.low.node().0;
+    let a = fields.high.node().0;
+    let b = fields.low.node().0;
     marks[a] = 1;
     marks[b] = 1;
+}
+
+// Fills place k with the count of node k, and marks the nodes that its record names.
+fn enter_node(table: &[u8], sheet: &mut [u8], marks: &mut [u8], k: usize, word: u64)
+    requires { ⌜ (0 < k) × Ready (now table) (now sheet) k k × (word ≡ wordAt (now table) k)
+        × (k < length (now marks)) × Marked (now marks) (k - 1) (wordAt (now table)) ⌝ }
+    ensures { λ _. ⌜ (now (sheet .exit) ≡ putWord (now (sheet .entry)) k (place (wordAt (now (table .entry))) k))
+        × (length (now (marks .exit)) ≡ length (now (marks .entry))) × Marked (now (marks .exit)) k (wordAt (now (table .entry))) ⌝ }
+{
+    let fields = Record::of(word);
+    mark_named(marks, fields);
+    let c = count_node(table, sheet, k, fields);
+    words::put_word(sheet, k, c);
 }
 
 // Fills places 0 to N with the counts, and marks the nodes that a record names.
@@ -245,12 +262,13 @@ fn count_nodes(table: &[u8], sheet: &mut [u8], marks: &mut [u8], n: u64, nodes: 
         × (length (now (marks .exit)) ≡ length (now (marks .entry))) × Marked (now (marks .exit)) nodes (wordAt (now (table .entry))) ⌝ }
 {
     words::put_word(sheet, 0, 1);
+    let mut word = word_after(table, 0, nodes);
     let mut k = 0;
     while k < nodes {
         k += 1;
-        mark_named(table, marks, k);
-        let c = count_node(table, sheet, k);
-        words::put_word(sheet, k, c);
+        let this = word;
+        word = word_after(table, k, nodes);
+        enter_node(table, sheet, marks, k, this);
     }
 }
 

@@ -7,11 +7,11 @@ use native.Mathlib.Nat.{add-zero}
 use lib.ListN.{getD}
 use Rattle.words.specs.Words.{beAt, wordAt}
 use Rattle.diagram.specs.Format.{Words, highField, middleField, lowField, settings, nodes, root, height, thenEdge, elseEdge}
-use Rattle.diagram.specs.Reading.{IsHeader, IsRecord}
+use Rattle.diagram.specs.Reading.{HasFields, IsHeader, IsRecord}
 
 -- the height of a node that is not the sink
-pub height-node : (w : Words) (k : ℕ) → 0 < k → height w k ≡ w k / 288230376151711744
-unfolding height highField
+pub height-node : (w : Words) (k : ℕ) → 0 < k → height w k ≡ highField (w k)
+unfolding height
 height-node w zero l = absurd (omega arith)
 height-node w (suc k) l = refl
 
@@ -28,15 +28,27 @@ header-is w v e l = record {
   few-settings = omega arith;
 }
 
-pub record-is : (w : Words) (k v : ℕ) → 0 < k → v ≡ w k → v < 18446744073709551616 → IsRecord w k (v / 288230376151711744) (v / 536870912 % 536870912) (v % 536870912)
-unfolding thenEdge elseEdge middleField lowField
-record-is w k v p e l = record {
-  height-is = ap (λ (u : ℕ). u / 288230376151711744) e ∙ sym (height-node w k p);
-  then-is = ap (λ (u : ℕ). u / 536870912 % 536870912) e;
-  else-is = ap (λ (u : ℕ). u % 536870912) e;
-  low = omega arith;
-  then-fits = omega arith;
-  else-fits = omega arith;
+pub fields-are : (v : ℕ) → v < 18446744073709551616 → HasFields v (v / 288230376151711744) (v / 536870912 % 536870912) (v % 536870912)
+unfolding highField middleField lowField
+fields-are v l = record {
+  high-is = refl;
+  middle-is = refl;
+  low-is = refl;
+  high-fits = omega arith;
+  middle-fits = omega arith;
+  low-fits = omega arith;
+}
+
+-- a record is the fields of its word
+pub fields-record : (w : Words) (k v h t e : ℕ) → 0 < k → v ≡ w k → HasFields v h t e → IsRecord w k h t e
+unfolding thenEdge elseEdge
+fields-record w k v h t e p q f = record {
+  height-is = f .high-is ∙ ap highField q ∙ sym (height-node w k p);
+  then-is = f .middle-is ∙ ap middleField q;
+  else-is = f .low-is ∙ ap lowField q;
+  low = f .high-fits;
+  then-fits = f .middle-fits;
+  else-fits = f .low-fits;
 }
 
 -- the top six bits of a word are those of its first byte
@@ -48,7 +60,7 @@ rest-fits : (b c d e f g h : ℕ) → b < 256 → c < 256 → d < 256 → e < 25
 rest-fits b c d e f g h p q r s t u v = omega arith
 
 pub height-byte : (l : List ℕ) (k : ℕ) → 0 < k → ((i : ℕ) → getD l i 0 < 256) → getD l (8 * k) 0 / 4 ≡ height (wordAt l) k
-unfolding wordAt beAt
+unfolding wordAt beAt highField
 height-byte l k p f =
     let at : ℕ → ℕ = λ i. getD l (8 * k + i) 0 in
     let e : wordAt l k ≡ getD l (8 * k) 0 * 72057594037927936

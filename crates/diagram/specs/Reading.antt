@@ -3,8 +3,17 @@ use Prim.Native.Nat.{ℕ, _+_, _*_, _≤_, _<_}
 use mathlib.Core.Path.{_≡_}
 use mathlib.Core.List.{List}
 use lib.ListN.{length}
-use Rattle.diagram.specs.Format.{Words, settings, nodes, root, height, thenEdge, elseEdge}
+use Rattle.diagram.specs.Format.{Words, highField, middleField, lowField, settings, nodes, root, height, thenEdge, elseEdge}
 use Rattle.diagram.specs.Ordered.{Holds}
+
+-- the three fields of word v
+pub record HasFields (v h t e : ℕ) : Type 0 where
+  pub high-is : h ≡ highField v
+  pub middle-is : t ≡ middleField v
+  pub low-is : e ≡ lowField v
+  pub high-fits : h ≤ 63
+  pub middle-fits : t < 536870912
+  pub low-fits : e < 536870912
 
 -- the header's fields
 pub record IsHeader (w : Words) (n N e : ℕ) : Type 0 where

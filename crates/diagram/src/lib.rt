@@ -6,7 +6,7 @@ ghost use lib.ListN.{length};
 ghost use Rattle.words.specs.Words.{wordAt};
 ghost use Rattle.diagram.specs.Format.{height};
 ghost use Rattle.diagram.specs.Count.{indicator};
-ghost use Rattle.diagram.specs.Reading.{IsHeader, IsRecord};
+ghost use Rattle.diagram.specs.Reading.{HasFields, IsHeader, IsRecord};
 
 // A node's number. Node 0 is the sink.
 pub struct Node(pub usize);
@@ -65,6 +65,22 @@ pub struct Record {
     pub low: Edge,
 }
 
+impl Record {
+    pub fn of(word: u64) -> Self
+        ensures { λ r. ⌜ HasFields word (r .height) (r .high .value) (r .low .value) ⌝ }
+    {
+        Record {
+            height: word / 288230376151711744,
+            high: Edge {
+                value: word / 536870912 % 536870912,
+            },
+            low: Edge {
+                value: word % 536870912,
+            },
+        }
+    }
+}
+
 pub fn header_of(table: &[u8]) -> Header
     requires { ⌜ 8 ≤ length (now table) ⌝ }
     ensures { λ r. ⌜ IsHeader (wordAt (now (table .entry))) (r .settings) (r .nodes) (r .root .value) ⌝ }
@@ -83,26 +99,18 @@ pub fn record_at(table: &[u8], k: Node) -> Record
     requires { ⌜ (0 < k .0) × (8 * k .0 + 8 ≤ length (now table)) ⌝ }
     ensures { λ r. ⌜ IsRecord (wordAt (now (table .entry))) (k .0) (r .height) (r .high .value) (r .low .value) ⌝ }
 {
-    let word = words::word_at(table, k.0);
-    Record {
-        height: word / 288230376151711744,
-        high: Edge {
-            value: word / 536870912 % 536870912,
-        },
-        low: Edge {
-            value: word % 536870912,
-        },
-    }
+    Record::of(words::word_at(table, k.0))
 }
 
-// The height of node k, from the first byte of its record.
+// The height of node k, from the first byte of its record. (The byte is read for the sink too: then there is no jump.)
 pub fn height_at(table: &[u8], k: Node) -> u64
     requires { ⌜ 8 * k .0 + 8 ≤ length (now table) ⌝ }
     ensures { λ r. ⌜ (r ≡ height (wordAt (now (table .entry))) (k .0)) × (r ≤ 63) ⌝ }
 {
     let i = k.0;
+    let h = (table[8 * i] / 4) as u64;
     if i == 0 {
         return 0;
     }
-    (table[8 * i] / 4) as u64
+    h
 }

@@ -4,7 +4,7 @@ use mathlib.Core.Path.{_≡_, refl, sym, ap, subst, _∙_}
 use native.Mathlib.Omega.{arith}
 use borrow.Author.Needs.{needs}
 use Rattle.diagram.specs.Answer.{pass, each}
-use Rattle.checking.specs.Sheet.{checkMarks}
+use Rattle.checking.specs.Inner.{checkMarks}
 use Rattle.checking.proofs.Checks.{marks-refused, marks-passed}
 use Rattle.checking.proofs.check_marks.Statement.{statement}
 use Rattle.checking.proofs.check_marks.Tie as tie

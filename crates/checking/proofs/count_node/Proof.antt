@@ -5,24 +5,19 @@ use Rattle.checking.proofs.count_node.Statement.{statement}
 use Rattle.checking.proofs.count_node.Tie as tie
 
 sub-h : tie.Need-sub-h
-sub-h c = let d = c .before in node-tall _ _ _ _ _ _ (d .before .before .before .pre .0) (d .before .before .before .pre .1) (d .record-at .ensures)
+sub-h c = let p = c .before .before .before .pre in node-tall _ _ _ _ _ _ (p .0) (p .1) (p .2)
 
 count-edge-requires : tie.Need-count-edge-requires
-count-edge-requires c κs = let d = c .before in ready-low _ _ _ _ _ _ (d .before .before .before .pre .0) (d .before .before .before .pre .1) (d .record-at .ensures)
+count-edge-requires c κs = let p = c .before .before .before .pre in ready-low _ _ _ _ _ _ (p .0) (p .1) (p .2)
 
 count-edge-requires-2 : tie.Need-count-edge-requires-2
-count-edge-requires-2 c κs = let d = c .before .before in ready-high _ _ _ _ _ _ (d .before .before .before .pre .0) (d .before .before .before .pre .1) (d .record-at .ensures)
+count-edge-requires-2 c κs = let p = c .before .before .before .before .pre in ready-high _ _ _ _ _ _ (p .0) (p .1) (p .2)
 
 add-result : tie.Need-add-result
-add-result c =
-    let d = c .before .before .before in
-    record { fits = place-sum _ _ _ _ _ _ (d .before .before .before .pre .0) (d .before .before .before .pre .1) (d .record-at .ensures) _ _ (c .before .count-edge .ensures) (c .count-edge2 .ensures) .1 }
+add-result c = let p = c .before .before .before .before .before .pre in record { fits = place-sum _ _ _ _ _ _ (p .0) (p .1) (p .2) _ _ (c .before .count-edge .ensures) (c .count-edge2 .ensures) .1 }
 
 returns : tie.Need-returns
-returns c =
-    let d = c .before .before .before in
-    place-sum _ _ _ _ _ _ (d .before .before .before .pre .0) (d .before .before .before .pre .1) (d .record-at .ensures) _ _ (c .before .count-edge .ensures) (c .count-edge2 .ensures)
+returns c = let p = c .before .before .before .before .before .pre in place-sum _ _ _ _ _ _ (p .0) (p .1) (p .2) _ _ (c .before .count-edge .ensures) (c .count-edge2 .ensures)
 
 pub count-node-spec : {M : Type 1} → statement M
-count-node-spec =
-    tie.close (tie.spec (λ c κs. search needs) sub-h count-edge-requires count-edge-requires-2 add-result returns)
+count-node-spec = tie.close (tie.spec sub-h count-edge-requires count-edge-requires-2 add-result returns)

@@ -7,16 +7,16 @@ use Rattle.diagram.proofs.Fields.{height-sink, height-byte}
 use Rattle.diagram.proofs.height_at.Statement.{statement}
 use Rattle.diagram.proofs.height_at.Tie as tie
 
+cast-h : tie.Need-cast-h
+cast-h c = omega (arith, c .shared-slice-known .given (8 * c .before .args .k .0))
+
 returns : tie.Need-returns
 returns c = (sym (height-sink _ _ (c .if1 .taken)), omega arith)
 
-cast-result : tie.Need-cast-result
-cast-result c = omega (arith, c .shared-slice-known .given (8 * c .before .before .args .k .0))
-
 returns-2 : tie.Need-returns-2
 returns-2 c =
-    let b = c .before .before in
-    (height-byte _ _ (search needs) (λ i. omega (arith, c .shared-slice-known .given i)), omega (arith, c .shared-slice-known .given (8 * b .args .k .0)))
+    let g = c .before .shared-slice-known .given in
+    (height-byte _ _ (search needs) (λ i. omega (arith, g i)), omega (arith, g (8 * c .before .before .args .k .0)))
 
 pub height-at-spec : {M : Type 1} → statement M
-height-at-spec = tie.close (tie.spec returns (λ c. search needs) (λ c. search needs) cast-result returns-2)
+height-at-spec = tie.close (tie.spec (λ c. search needs) (λ c. search needs) cast-h returns returns-2)

@@ -1,9 +1,9 @@
--- What the inner functions know of the sheet and of the marks of rule 9: for inner contracts only. Assumes nothing.
+-- What the inner functions know of the records, the sheet and the marks of rule 9: for inner contracts only. Assumes nothing.
 use Prim.Native.Nat.{ℕ, suc, _+_, _-_, _*_, _<_, _≤_}
 use mathlib.Core.Path.{_≡_}
 use mathlib.Core.Bool.{cond}
 use mathlib.Core.List.{List}
-use lib.Dec.{eqb}
+use lib.Dec.{eqb, ltb}
 use lib.ListN.{length, getD}
 use Rattle.words.specs.Words.{wordAt}
 use Rattle.diagram.specs.Format.{Words}
@@ -11,6 +11,10 @@ use Rattle.diagram.specs.Count.{indicator, place}
 use Rattle.diagram.specs.Answer.{Answer, refusal, pass, each}
 use Rattle.diagram.specs.Rules.{named}
 use Rattle.diagram.specs.Reading.{Within}
+
+-- the record before record k, or 0
+abbrev pub previous : Words → ℕ → ℕ
+previous w k = cond (ltb 1 k) (w (k - 1)) 0
 
 -- the first m places of a sheet hold the counts of nodes 0 to m - 1
 abbrev pub HoldsPlaces : Words → ℕ → Words → Type 0
