@@ -1,6 +1,6 @@
 -- An operation after the check: its refusal is handed on, and otherwise the table is accepted and the sheet holds the counts. Assumes nothing.
 use Prim.Native.Nat.{ℕ, _+_, _*_, _/_, _%_, _^_, _≤_, _<_}
-use mathlib.Core.Path.{_≡_, sym, ap, ap₂, _∙_}
+use mathlib.Core.Path.{_≡_, sym, ap, subst, _∙_}
 use mathlib.Core.Bool.{Bool, true, false, cond}
 use mathlib.Core.List.{List}
 use native.Mathlib.Omega.{arith}
@@ -13,19 +13,19 @@ use Rattle.words.specs.Words.{wordAt, wordsOver}
 use Rattle.words.proofs.Laws.{words-read, length-wordsOver}
 use Rattle.diagram.specs.Format.{Words, settings, nodes, root, height}
 use Rattle.diagram.specs.Meaning.{under, permitted}
-use Rattle.diagram.specs.Count.{countBelow, place, total}
+use Rattle.diagram.specs.Count.{place, total, edgeCount}
 use Rattle.diagram.specs.Answer.{Answer, value, refusal, andThen}
 use Rattle.diagram.specs.Ordered.{Holds, Accepted}
 use Rattle.diagram.specs.Reading.{IsHeader, Within}
 use Rattle.diagram.proofs.Paths.{height-le-settings}
+use Rattle.diagram.proofs.Counts.{through, total-root}
 use Rattle.diagram.proofs.Accept.{check-accepted}
 use Rattle.checking.specs.declared.Checked.{Checked}
 use Rattle.checking.specs.declared.Checked.the-variants.{Table}
 use Rattle.checking.specs.declared.Shape.{Shape}
 use Rattle.checking.specs.Answers.{checkedAs}
 use Rattle.checking.specs.Operations.{checking, counting, testing, sheetBy, sheetAfter}
-use Rattle.checking.specs.Inner.{Ready}
-use Rattle.checking.proofs.Places.{place-fits}
+use Rattle.checking.proofs.Places.{place-le, place-fits}
 
 module _ (t s out : List ℕ) (a : Checked) (is : (checkedAs a ≡ checking t s) × (out ≡ sheetAfter t s)) where
   -- a refusal of the check is the operation's
@@ -79,30 +79,32 @@ module _ (t s out : List ℕ) (a : Checked) (is : (checkedAs a ≡ checking t s)
       unfolding sheetAfter sheetBy
       filled = is .1 ∙ rw (checking-is, h .nodes-is)
 
-      -- the places hold the counts
-      pub root-ready : Ready t out (e / 2) (e / 2 + 1) × (height w (e / 2) ≤ n) × (n ≤ 63)
-      root-ready =
-          let H = table-holds in
-          let i = root-inside in
-          let low : (k : ℕ) → k ≤ N → height w k ≤ n = height-le-settings w n N (H .ordered) in
-          let m : 8 * (N + 1) ≤ length s = omega (arith, accepted .1, nodes-is) in (
-            record {
-              within = root-within;
-              room = omega (arith, ap length filled, length-wordsOver (place w) (N + 1) s m);
-              places = λ k l. ap (λ (x : List ℕ). wordAt x k) filled ∙ words-read (place w) (N + 1) s k (omega arith) (place-fits w k (omega (arith, low k (omega arith), h .few-settings)));
-            },
-            low (e / 2) i,
-            h .few-settings,
-          )
+      -- the root's place holds its count, where g is its height
+      pub root-room : 8 * (e / 2) + 8 ≤ length t
+      root-room = omega (arith, root-inside, table-holds .long)
 
-      total-root : total w ≡ countBelow (under w e) (2 ^ n)
-      unfolding total permitted
-      total-root = ap₂ (λ (r m : ℕ). countBelow (under w r) (2 ^ m)) (sym (h .root-is)) (sym (h .settings-is))
+      module _ (v g : ℕ) (v-is : v ≡ e / 2) (g-is : g ≡ height w v) where
+        g-root : g ≡ height w (e / 2)
+        g-root = g-is ∙ ap (height w) v-is
 
-      -- counting
-      pub counted : (c : ℕ) → c ≡ countBelow (under w e) (2 ^ n) → value c ≡ counting t s
-      unfolding counting
-      counted c q′ = sym (going-on (λ _. value (total w)) ∙ ap value (total-root ∙ sym q′))
+        low : height w (e / 2) ≤ n
+        low = height-le-settings w n N (table-holds .ordered) (e / 2) root-inside
+
+        m : 8 * (N + 1) ≤ length s
+        m = omega (arith, accepted .1, nodes-is)
+
+        root-place : wordAt out (e / 2) ≡ place w (e / 2)
+        root-place = ap (λ (x : List ℕ). wordAt x (e / 2)) filled ∙ words-read (place w) (N + 1) s (e / 2) (omega (arith, root-inside)) (place-fits w (e / 2) (omega (arith, low, h .few-settings)))
+
+        pub root-ready : (8 * (e / 2) + 8 ≤ length out) × (wordAt out (e / 2) ≤ 2 ^ g) × (g ≤ n) × (n ≤ 63)
+        root-ready = (omega (arith, ap length filled, length-wordsOver (place w) (N + 1) s m, m, root-inside), rw (root-place, g-root) (place-le w (e / 2)), omega (arith, g-root, low), h .few-settings)
+
+        -- counting
+        pub counted : (c : ℕ) → c ≡ edgeCount (e % 2) g n (wordAt out (e / 2)) → value c ≡ counting t s
+        unfolding counting
+        counted c q′ =
+            let r : root w / 2 ≤ N = subst (λ (x : ℕ). x / 2 ≤ N) (h .root-is) root-inside in
+            sym (going-on (λ _. value (total w)) ∙ ap value (total-root w n N (table-holds .ordered) r (sym (h .settings-is)) ∙ rw (← h .root-is, ← g-root, ← root-place) (sym q′)))
 
       -- testing
       power : 1 * 2 ^ n % 18446744073709551616 ≡ 2 ^ n

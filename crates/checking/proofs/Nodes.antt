@@ -1,9 +1,10 @@
 -- Counting a node by its record, and marking the nodes that it names, in the terms of the code. Assumes nothing.
-use Prim.Native.Nat.{ℕ, zero, suc, _+_, _-_, _/_, _^_, _≤_, _<_}
+use Prim.Native.Nat.{ℕ, zero, suc, _+_, _-_, _*_, _/_, _%_, _^_, _≤_, _<_}
 use mathlib.Core.Path.{_≡_, refl, sym, ap, ap₂, _∙_, subst}
 use mathlib.Core.Bool.{Bool, true, false, _||_, or-false, or-assoc}
 use mathlib.Core.List.{List}
 use native.Mathlib.Omega.{arith}
+use native.Mathlib.Nat.{add-comm}
 use lib.Dec.{eqb}
 use lib.ListN.{length, getD, set, length-set}
 use lib.Seq.{getD-set-same, getD-set-other}
@@ -11,17 +12,21 @@ use borrow.Author.Tests.{eqb-true, eqb-false, eq-eqb, ne-eqb}
 use Rattle.words.specs.Words.{wordAt}
 use Rattle.words.proofs.Cases.{or-either}
 use Rattle.diagram.specs.Format.{Words, height, thenEdge, elseEdge}
-use Rattle.diagram.specs.Meaning.{under}
-use Rattle.diagram.specs.Count.{indicator, countBelow, someBelow, place}
+use Rattle.diagram.specs.Count.{indicator, someBelow, place, edgeCount}
 use Rattle.diagram.specs.Rules.{names, named}
 use Rattle.diagram.specs.Ordered.{Ordered}
 use Rattle.diagram.specs.Reading.{IsRecord, Within}
 use Rattle.diagram.proofs.Paths.{Lower, tall-node, then-lower, else-lower}
-use Rattle.diagram.proofs.Counts.{place-node}
-use Rattle.checking.specs.Inner.{Ready, Marked}
-use Rattle.checking.proofs.Places.{place-fits}
+use Rattle.diagram.proofs.Counts.{through, place-rec}
+use Rattle.checking.specs.Inner.{HoldsPlaces, Ready, Marked}
+use Rattle.checking.proofs.Places.{place-le, place-fits}
 
--- node k, with its record, where the places below it are filled
+-- what an edge of height h at most to node v of height g needs to be counted, where c stands in its place
+counts : (t s : List ℕ) (e h g filled : ℕ) → HoldsPlaces (wordAt s) filled (wordAt t) → e / 2 < filled → 8 * (e / 2) + 8 ≤ length s
+    → g ≡ height (wordAt t) (e / 2) → g ≤ h → h ≤ 63 → (8 * (e / 2) + 8 ≤ length s) × (wordAt s (e / 2) ≤ 2 ^ g) × (g ≤ h) × (h ≤ 63)
+counts t s e h g filled f l m p i j = (m, rw (f (e / 2) l, p) (place-le (wordAt t) (e / 2)), i, j)
+
+-- node k, with its record, where the places below it are filled; f and g are the heights of its edges' nodes
 module _ (t s : List ℕ) (k h a b : ℕ) (p : 0 < k) (R : Ready t s k k) (r : IsRecord (wordAt t) k h a b) where
   abbrev w : Words
   w = wordAt t
@@ -35,39 +40,47 @@ module _ (t s : List ℕ) (k h a b : ℕ) (p : 0 < k) (R : Ready t s k k) (r : I
   pub node-tall : 0 < h
   node-tall = rw (r .height-is) (tall-node w (W .settings) (W .nodes) D k p (W .inside))
 
-  -- an edge of the node can be counted
-  ready : (e : ℕ) → Lower w k e → Ready t s (e / 2) (e / 2 + 1) × (height w (e / 2) ≤ h - 1) × (h - 1 ≤ 63)
-  ready e q =
+  high-lower : Lower w k a
+  high-lower = subst (Lower w k) (sym (r .then-is)) (then-lower w (W .settings) (W .nodes) D k p (W .inside))
+
+  low-lower : Lower w k b
+  low-lower = subst (Lower w k) (sym (r .else-is)) (else-lower w (W .settings) (W .nodes) D k p (W .inside))
+
+  -- an edge's node lies in the table
+  pub high-room : 8 * (a / 2) + 8 ≤ length t
+  high-room = omega (arith, high-lower .node, W .inside, W .holds .long)
+
+  pub low-room : 8 * (b / 2) + 8 ≤ length t
+  low-room = omega (arith, low-lower .node, W .inside, W .holds .long)
+
+  ready : (e g : ℕ) → Lower w k e → g ≡ height w (e / 2) → (8 * (e / 2) + 8 ≤ length s) × (wordAt s (e / 2) ≤ 2 ^ g) × (g ≤ h - 1) × (h - 1 ≤ 63)
+  ready e g q u =
       let i = q .node in
-      let g = q .low in
-      let j = W .inside in
+      let o = q .low in
       let m = R .room in
-      let u = r .height-is in
-      let v = r .low in (
-        record {
-          within = record { settings = W .settings; nodes = W .nodes; holds = W .holds; inside = omega arith };
-          room = omega arith;
-          places = λ i l. R .places i (omega arith);
-        },
-        omega arith,
-        omega arith,
-      )
+      let x = r .height-is in
+      let y = r .low in
+      counts t s e (h - 1) g k (R .places) i (omega arith) u (omega arith) (omega arith)
 
-  pub ready-high : Ready t s (a / 2) (a / 2 + 1) × (height w (a / 2) ≤ h - 1) × (h - 1 ≤ 63)
-  ready-high = ready a (subst (Lower w k) (sym (r .then-is)) (then-lower w (W .settings) (W .nodes) D k p (W .inside)))
+  module _ (f g : ℕ) (f-is : f ≡ height w (a / 2)) (g-is : g ≡ height w (b / 2)) where
+    pub ready-high : (8 * (a / 2) + 8 ≤ length s) × (wordAt s (a / 2) ≤ 2 ^ f) × (f ≤ h - 1) × (h - 1 ≤ 63)
+    ready-high = ready a f high-lower f-is
 
-  pub ready-low : Ready t s (b / 2) (b / 2 + 1) × (height w (b / 2) ≤ h - 1) × (h - 1 ≤ 63)
-  ready-low = ready b (subst (Lower w k) (sym (r .else-is)) (else-lower w (W .settings) (W .nodes) D k p (W .inside)))
+    pub ready-low : (8 * (b / 2) + 8 ≤ length s) × (wordAt s (b / 2) ≤ 2 ^ g) × (g ≤ h - 1) × (h - 1 ≤ 63)
+    ready-low = ready b g low-lower g-is
 
-  -- the counts of its edges add up to its own, which fits
-  pub place-sum : (c d : ℕ) → c ≡ countBelow (under w b) (2 ^ (h - 1)) → d ≡ countBelow (under w a) (2 ^ (h - 1)) → (c + d ≡ place w k) × (c + d < 18446744073709551616)
-  place-sum c d u v =
-      let e : c + d ≡ place w k = ap₂ _+_ u v ∙ rw (r .height-is, r .then-is, r .else-is) (sym (sum k p (W .inside))) in
-      (e, rw e (place-fits w k (omega (arith, r .height-is, r .low))))
-    where
-      sum : (k : ℕ) → 0 < k → k ≤ W .nodes → place w k ≡ countBelow (under w (elseEdge w k)) (2 ^ (height w k - 1)) + countBelow (under w (thenEdge w k)) (2 ^ (height w k - 1))
-      sum zero p l = absurd (omega arith)
-      sum (suc k) p l = place-node w (W .settings) (W .nodes) D k l
+    -- the counts of its edges add up to its own, which fits
+    pub place-sum : (c d : ℕ) → c ≡ edgeCount (a % 2) f (h - 1) (wordAt s (a / 2)) → d ≡ edgeCount (b % 2) g (h - 1) (wordAt s (b / 2))
+        → (c + d ≡ place w k) × (c + d < 18446744073709551616)
+    place-sum c d u v =
+        let x : c ≡ through w (h - 1) a = u ∙ rw (f-is, R .places (a / 2) (high-lower .node)) in
+        let y : d ≡ through w (h - 1) b = v ∙ rw (g-is, R .places (b / 2) (low-lower .node)) in
+        let e : c + d ≡ place w k = add-comm c d ∙ ap₂ _+_ y x ∙ rw (r .height-is, r .then-is, r .else-is) (sym (sum k p (W .inside))) in
+        (e, rw e (place-fits w k (omega (arith, r .height-is, r .low))))
+      where
+        sum : (k : ℕ) → 0 < k → k ≤ W .nodes → place w k ≡ through w (height w k - 1) (elseEdge w k) + through w (height w k - 1) (thenEdge w k)
+        sum zero p l = absurd (omega arith)
+        sum (suc k) p l = place-rec w (W .settings) (W .nodes) D k l
 
 -- one record more
 named-next : (w : Words) (k j : ℕ) → 0 < k → named w k j ≡ (named w (k - 1) j || names w k j)

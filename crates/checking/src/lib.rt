@@ -6,7 +6,7 @@ ghost use lib.ListN.{length, set};
 ghost use Rattle.words.specs.Words.{wordAt, putWord, wordsOver};
 ghost use Rattle.diagram.specs.Format.{height};
 ghost use Rattle.diagram.specs.Meaning.{branch, plain, under};
-ghost use Rattle.diagram.specs.Count.{countBelow, place};
+ghost use Rattle.diagram.specs.Count.{place, edgeCount};
 ghost use Rattle.diagram.specs.Answer.{refusal};
 ghost use Rattle.diagram.specs.Rules.{misled, checkRecord, checkHeader, checkRecords, checkNames, checkDiagram};
 ghost use Rattle.diagram.specs.Ordered.{Holds};
@@ -207,14 +207,12 @@ fn check_records(table: &[u8], n: u64, nodes: usize) -> Verdict
     Verdict::Passed
 }
 
-// How many of the 2^h setups below height h are permitted under edge e, by the places of the sheet.
-fn count_edge(table: &[u8], sheet: &[u8], e: Edge, h: u64) -> u64
-    requires { ⌜ Ready (now table) (now sheet) (e .value / 2) (e .value / 2 + 1) × (height (wordAt (now table)) (e .value / 2) ≤ h) × (h ≤ 63) ⌝ }
-    ensures { λ r. ⌜ r ≡ countBelow (under (wordAt (now (table .entry))) (e .value)) (2 ^ h) ⌝ }
+// The count of edge e from height h, by the place of its node, whose height is g.
+fn count_edge(sheet: &[u8], e: Edge, g: u64, h: u64) -> u64
+    requires { ⌜ (8 * (e .value / 2) + 8 ≤ length (now sheet)) × (wordAt (now sheet) (e .value / 2) ≤ 2 ^ g) × (g ≤ h) × (h ≤ 63) ⌝ }
+    ensures { λ r. ⌜ r ≡ edgeCount (e .value % 2) g h (wordAt (now (sheet .entry)) (e .value / 2)) ⌝ }
 {
-    let node = e.node();
-    let g = diagram::height_at(table, node);
-    let c = words::word_at(sheet, node.0);
+    let c = words::word_at(sheet, e.node().0);
     if e.flagged() {
         return ((1 << g) - c) << (h - g);
     }
@@ -227,8 +225,10 @@ fn count_node(table: &[u8], sheet: &[u8], k: usize, fields: Record) -> u64
         × IsRecord (wordAt (now table)) k (fields .height) (fields .high .value) (fields .low .value) ⌝ }
     ensures { λ r. ⌜ (r ≡ place (wordAt (now (table .entry))) k) × (r < 18446744073709551616) ⌝ }
 {
+    let a = diagram::height_at(table, fields.high.node());
+    let b = diagram::height_at(table, fields.low.node());
     let h = fields.height - 1;
-    count_edge(table, sheet, fields.low, h) + count_edge(table, sheet, fields.high, h)
+    count_edge(sheet, fields.high, a, h) + count_edge(sheet, fields.low, b, h)
 }
 
 // Marks the nodes that a record of these fields names.
@@ -382,7 +382,8 @@ pub fn count(table: &[u8], sheet: &mut [u8]) -> Counted
         return Counted::Refused(refusal_of(checked));
     };
     let header = diagram::header_of(table);
-    Counted::Total(count_edge(table, sheet, header.root, header.settings))
+    let g = diagram::height_at(table, header.root.node());
+    Counted::Total(count_edge(sheet, header.root, g, header.settings))
 }
 
 // Whether setup x is permitted under a plain edge to node k.

@@ -9,26 +9,21 @@ use lib.Pow.{pow-pos, pow-add, mod-pow-add}
 use native.Mathlib.Omega.{arith}
 use Rattle.diagram.specs.Format.{Words, settings, root, height, thenEdge, elseEdge}
 use Rattle.diagram.specs.Meaning.{bit, branch, flip, plain, under, permitted}
-use Rattle.diagram.specs.Count.{indicator, countBelow, place, total}
+use Rattle.diagram.specs.Count.{countBelow, place, total, opposite, edgeCount}
 use Rattle.diagram.proofs.CountLaws.{count-cong, count-add, count-not, count-blocks, count-gap, count-half}
 use Rattle.diagram.proofs.Bits.{withSet, withClear}
 use Rattle.diagram.specs.Ordered.{Ordered}
 use Rattle.diagram.proofs.Paths.{height-le-settings}
 use Rattle.diagram.proofs.Local.{under-agree, plain-set, plain-clear}
 
--- c of m, or the m - c others if the flag is set
-unfoldable pub opposite : ℕ → ℕ → ℕ → ℕ
-opposite zero m c = c
-opposite (suc f) m c = m - c
-
 pub count-flip : (f : ℕ) (P : ℕ → Bool) (m : ℕ) → countBelow (λ x. flip f (P x)) m ≡ opposite f m (countBelow P m)
 unfolding flip opposite
 count-flip zero P m = refl
 count-flip (suc f) P m = omega (arith, count-not P m)
 
--- how many of the 2 ^ H setups below height H edge e permits, from its node's place: the node's count, or its opposite, as often as the gap allows
-unfoldable pub edgeCount : Words → ℕ → ℕ → ℕ
-edgeCount w H e = 2 ^ (H - height w (e / 2)) * opposite (e % 2) (2 ^ height w (e / 2)) (place w (e / 2))
+-- how many of the 2 ^ H setups below height H edge e permits, from its node's place
+abbrev pub through : Words → ℕ → ℕ → ℕ
+through w H e = edgeCount (e % 2) (height w (e / 2)) H (place w (e / 2))
 
 module _ (w : Words) (n N : ℕ) (D : Ordered w n N) where
   -- below an edge the setups repeat from the node's height on
@@ -37,7 +32,7 @@ module _ (w : Words) (n N : ℕ) (D : Ordered w n N) where
       let h = height w (e / 2) in
       under-agree w n N D e h (2 ^ h + x) x m (le-refl h) (add-mod-left (2 ^ h) x)
 
-  pub count-edge : (e H : ℕ) → e / 2 ≤ N → height w (e / 2) ≤ H → countBelow (under w e) (2 ^ H) ≡ edgeCount w H e
+  pub count-edge : (e H : ℕ) → e / 2 ≤ N → height w (e / 2) ≤ H → countBelow (under w e) (2 ^ H) ≡ through w H e
   unfolding under place edgeCount
   count-edge e H m q =
       let h = height w (e / 2) in
@@ -70,7 +65,7 @@ module _ (w : Words) (n N : ℕ) (D : Ordered w n N) where
       (count-cong (λ x. plain w (suc k) (2 ^ (h - 1) + x)) (under w (thenEdge w (suc k))) (2 ^ (h - 1)) (λ x l. then-half k x m l))
 
   -- the recursion by which the sheet is filled
-  pub place-rec : (k : ℕ) → k < N → place w (suc k) ≡ edgeCount w (height w (suc k) - 1) (elseEdge w (suc k)) + edgeCount w (height w (suc k) - 1) (thenEdge w (suc k))
+  pub place-rec : (k : ℕ) → k < N → place w (suc k) ≡ through w (height w (suc k) - 1) (elseEdge w (suc k)) + through w (height w (suc k) - 1) (thenEdge w (suc k))
   place-rec k m =
       let a = D .else-node k m in
       let b = D .else-height k m in
@@ -81,7 +76,7 @@ module _ (w : Words) (n N : ℕ) (D : Ordered w n N) where
       ∙ ap₂ _+_ (count-edge (elseEdge w (suc k)) (h - 1) (omega arith) (omega arith)) (count-edge (thenEdge w (suc k)) (h - 1) (omega arith) (omega arith))
 
   -- the total, from the root's place
-  pub total-root : root w / 2 ≤ N → settings w ≡ n → total w ≡ edgeCount w n (root w)
+  pub total-root : root w / 2 ≤ N → settings w ≡ n → total w ≡ through w n (root w)
   unfolding total permitted
   total-root l s =
       ap (λ (m : ℕ). countBelow (under w (root w)) (2 ^ m)) s ∙ count-edge (root w) n l (height-le-settings w n N D (root w / 2) l)

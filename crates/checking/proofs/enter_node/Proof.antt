@@ -16,7 +16,7 @@ mark-named-requires : tie.Need-mark-named-requires
 mark-named-requires c κs =
     let a = c .before .before .before .before .before in
     let p = a .pre in
-    let r = fields-record _ _ _ _ _ _ (p .0) (p .2) (c .before .of .ensures) in
+    let r = fields-record (wordAt (a .args .table .now)) (a .args .k) _ _ _ _ (p .0) (p .2) (c .before .of .ensures) in
     (omega (arith, high-below _ (a .args .marks .now) _ _ _ _ (p .0) (p .1 .within) r, p .3), omega (arith, low-below _ (a .args .marks .now) _ _ _ _ (p .0) (p .1 .within) r, p .3))
 
 count-node-requires : tie.Need-count-node-requires
