@@ -1,0 +1,30 @@
+-- The samples hold, all of the list: by computing, but for 2 ^ 63 setups, which the law of the root edge counts. Assumes nothing.
+use Prim.Native.Nat.{ℕ, _+_, _*_, _^_}
+use mathlib.Core.Path.{_≡_, refl, ap, _∙_}
+use mathlib.Core.List.{List}
+use lib.Dec.{lit≤}
+use lib.ListN.{length}
+use Rattle.words.specs.Words.{beAt, wordAt, bytesOf}
+use Rattle.diagram.specs.Format.{highField, middleField, lowField, settings, nodes, root, height, thenEdge, elseEdge}
+use Rattle.diagram.specs.Meaning.{bit, branch, flip, holds, plain, under, permitted}
+use Rattle.diagram.specs.Count.{indicator, countBelow, someBelow, place, total, opposite, edgeCount}
+use Rattle.diagram.specs.Answer.{value, refusal, andThen, each}
+use Rattle.diagram.specs.Rules.{misled, checkRecord, names, named, checkNamed, checkHeader, checkRecords, checkNames, checkDiagram, check}
+use Rattle.diagram.proofs.Counts.{total-root}
+use Rattle.diagram.proofs.Accept.{accepts-accepted}
+use Rattle.checking.specs.Operations.{checking, counting}
+use Rattle.samples.specs.Samples.{table, A, A′, full, single, empty, members, setups, sheet, All, samples}
+
+full-total : total (wordAt full) ≡ 9223372036854775808
+unfolding full table settings nodes root wordAt beAt bytesOf highField middleField lowField check checkHeader checkDiagram checkRecords checkNames each andThen height opposite edgeCount place countBelow plain holds indicator
+full-total =
+    let D = accepts-accepted full 63 0 refl .proper .reduced .ordered in
+    total-root (wordAt full) 63 0 D (lit≤ tt) refl
+
+full-count : counting full (sheet 1) ≡ value 9223372036854775808
+unfolding full table sheet counting checking settings nodes root wordAt beAt bytesOf highField middleField lowField check checkHeader checkDiagram checkRecords checkNames each andThen
+full-count = ap value full-total
+
+pub samples-hold : All samples
+unfolding table A A′ full single empty members setups sheet All samples beAt wordAt bytesOf highField middleField lowField settings nodes root height thenEdge elseEdge bit branch flip holds plain under permitted indicator countBelow someBelow place total andThen each misled checkRecord names named checkNamed checkHeader checkRecords checkNames checkDiagram check checking counting
+samples-hold = (refl, (refl, (refl, (refl, (refl, (full-count, (refl, (refl, (refl, tt)))))))))

@@ -1,0 +1,2 @@
+-- The samples that are proved.
+pub mod Samples

@@ -1,0 +1,208 @@
+// Runs the paper's samples of checking, counting and testing, and prints a line for each.
+use checking::Checked;
+use checking::Counted;
+use checking::Refusal;
+use checking::Shape;
+use checking::Tested;
+use diagram::Setup;
+use libc::STDOUT_FILENO;
+
+// Table A.
+const A: [u64; 4] = [
+    0x0C00000060000006,
+    0x0400000000000001,
+    0x0800000040000003,
+    0x0C00000080000000,
+];
+
+fn say(text: &[u8]) {
+    io::write_all(STDOUT_FILENO, text);
+}
+
+fn say_number(n: u64) {
+    say(b" ");
+    io::print_decimal(STDOUT_FILENO, n);
+}
+
+fn say_refusal(r: Refusal) {
+    say(b" refused");
+    say_number(checking::number_of(r));
+    say(b" at");
+    say_number(checking::place_of(r) as u64);
+}
+
+// Places 0 to N of the sheet, which has four.
+fn say_places(sheet: &[u8; 32], nodes: usize) {
+    say(b" places");
+    for k in 0..4 {
+        if k <= nodes {
+            say_number(words::word_at(sheet, k));
+        }
+    }
+}
+
+// Setup x, if it is permitted.
+fn say_permitted(table: &[u8], x: u64) {
+    let mut sheet = [0u8; 32];
+    let tested = checking::test(table, Setup(x), &mut sheet);
+    match tested {
+        Tested::Permitted(yes) => {
+            if yes {
+                say_number(x);
+            }
+        }
+        Tested::Refused(r) => say_refusal(r),
+    }
+}
+
+// The permitted setups, where n is small.
+fn say_setups(table: &[u8], n: u64) {
+    if 6 < n {
+        return;
+    }
+    say(b" setups");
+    let setups: u64 = 1 << n;
+    for x in 0..setups {
+        say_permitted(table, x);
+    }
+}
+
+// C, the places and the permitted setups of an accepted table.
+fn say_table(table: &[u8], shape: Shape) {
+    let mut sheet = [0u8; 32];
+    let counted = checking::count(table, &mut sheet);
+    match counted {
+        Counted::Total(c) => {
+            say(b" count");
+            say_number(c);
+            say_places(&sheet, shape.nodes);
+            say_setups(table, shape.settings);
+            if c == 0 {
+                say(b" none");
+            }
+        }
+        Counted::Refused(r) => say_refusal(r),
+    }
+}
+
+// A sample's line.
+fn sample(name: &[u8], table: &[u8]) {
+    say(name);
+    say(b":");
+    let mut sheet = [0u8; 32];
+    let checked = checking::check(table, &mut sheet);
+    match checked {
+        Checked::Table(shape) => {
+            say(b" vars");
+            say_number(shape.settings);
+            say(b" nodes");
+            say_number(shape.nodes as u64);
+            say_table(table, shape);
+        }
+        Checked::Refused(r) => say_refusal(r),
+    }
+    say(b"\n");
+}
+
+// Byte i of a row of words, most significant first.
+fn byte_of(words: &[u64], i: usize) -> u8 {
+    let k = i / 8;
+    if words.len() <= k {
+        return 0;
+    }
+    let below = 7 - i % 8;
+    ((words[k] >> (8 * below)) % 256) as u8
+}
+
+// A row of words as bytes.
+fn bytes_of(words: &[u64]) -> [u8; 32] {
+    let mut bytes = [0u8; 32];
+    for i in 0..32 {
+        bytes[i] = byte_of(words, i);
+    }
+    bytes
+}
+
+// The line of the table in the first `length` bytes.
+fn sample_front(name: &[u8], bytes: &[u8], length: usize) {
+    if length <= bytes.len() {
+        sample(name, &bytes[0..length]);
+    }
+}
+
+fn sample_of(name: &[u8], words: &[u64]) {
+    let bytes = bytes_of(words);
+    if words.len() <= 4 {
+        sample_front(name, &bytes, 8 * words.len());
+    }
+}
+
+fn refused_tables() {
+    let a = bytes_of(&A);
+    sample_front(b"seven bytes", &a, 7);
+    sample_of(b"0C00200000000000", &[0x0C00200000000000]);
+    sample_of(b"A with root 4", &[0x0C00000060000004, A[1], A[2], A[3]]);
+    sample_of(
+        b"A with record 1 as 0000000000000001",
+        &[A[0], 0x0000000000000001, A[2], A[3]],
+    );
+    sample_of(
+        b"A with record 1 as 0400000020000000",
+        &[A[0], 0x0400000020000000, A[2], A[3]],
+    );
+    sample_of(
+        b"A with record 2 as 0400000000000001",
+        &[A[0], A[1], 0x0400000000000001, A[3]],
+    );
+    sample_of(
+        b"A with record 2 as 0800000080000001",
+        &[A[0], A[1], 0x0800000080000001, A[3]],
+    );
+    sample_of(
+        b"A with record 3 as 0C00000080000004",
+        &[A[0], A[1], A[2], 0x0C00000080000004],
+    );
+    sample_of(
+        b"A with record 3 as 0C00000040000000",
+        &[A[0], A[1], A[2], 0x0C00000040000000],
+    );
+}
+
+fn accepted_tables() {
+    sample_of(b"A", &A);
+    sample_of(
+        b"A with header 0C00000060000007",
+        &[0x0C00000060000007, A[1], A[2], A[3]],
+    );
+    sample_of(b"FC00000000000000", &[0xFC00000000000000]);
+    sample_of(b"0000000000000000", &[0x0000000000000000]);
+    sample_of(b"0C00000000000001", &[0x0C00000000000001]);
+}
+
+// A setup that is too large: refused, whatever the table permits.
+fn setup_too_large() {
+    say(b"A, setup 8:");
+    let a = bytes_of(&A);
+    say_permitted(&a, 8);
+    say(b"\n");
+}
+
+// A sheet with a byte less than A's four places.
+fn sheet_too_short() {
+    say(b"A, sheet of 31 bytes:");
+    let a = bytes_of(&A);
+    let mut sheet = [0u8; 31];
+    let counted = checking::count(&a, &mut sheet);
+    match counted {
+        Counted::Total(c) => say_number(c),
+        Counted::Refused(r) => say_refusal(r),
+    }
+    say(b"\n");
+}
+
+fn main() {
+    refused_tables();
+    accepted_tables();
+    setup_too_large();
+    sheet_too_short();
+}
