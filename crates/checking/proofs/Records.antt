@@ -4,8 +4,7 @@ use mathlib.Core.Path.{_≡_, refl, sym, ap, _∙_}
 use mathlib.Core.Bool.{Bool, true, false, cond, _&&_, _||_}
 use native.Mathlib.Omega.{arith}
 use lib.Dec.{eqb, ltb, leb}
-use borrow.Author.Tests.{lt-ltb, le-ltb, le-leb, lt-leb, eq-eqb, ne-eqb}
-use Rattle.words.proofs.Cases.{or-either, join-false}
+use borrow.Author.Tests.{lt-ltb, le-ltb, lt-leb, eq-eqb, ne-eqb}
 use Rattle.diagram.specs.Format.{Words, highField, height, thenEdge, elseEdge}
 use Rattle.diagram.specs.Answer.{Answer, refusal, pass}
 use Rattle.diagram.specs.Rules.{misled, checkRecord}
@@ -25,9 +24,9 @@ above-nothing word before before′ zero p q e = absurd (omega arith)
 above-nothing word before before′ (suc zero) p q e = rw e (lt-leb word 0 q)
 above-nothing word before before′ (suc (suc k)) p q e = let t = lt-ltb 1 (suc (suc k)) (omega arith) in rw (e, t)
 
-module _ (w : Words) (n k h a b word before : ℕ) (p : 0 < k) (word-is : word ≡ w k) (before-is : before ≡ previous w k) (f : HasFields word h a b) where
+module _ (w : Words) (n k h a b word before : ℕ) (p : 0 < k) (word-is : word ≡ w k) (before-is : before ≡ previous w k) (F : HasFields word h a b) where
   pub fields-of : IsRecord w k h a b
-  fields-of = fields-record w k word h a b p word-is f
+  fields-of = fields-record w k word h a b p word-is F
 
   -- what is left after each rule
   left8 : Answer (Unit {0})
@@ -50,7 +49,7 @@ module _ (w : Words) (n k h a b word before : ℕ) (p : 0 < k) (word-is : word �
     at4 : checkRecord w n k ≡ cond (ltb n h) (refusal 4 k) left5
     unfolding checkRecord left5 left6 left7 left8 highField
     at4 =
-        let q : leb word before ≡ (ltb 1 k && leb (w k) (w (k - 1))) = above-nothing word before (w (k - 1)) k p (omega (arith, f .high-is)) before-is ∙ rw word-is in
+        let q : leb word before ≡ (ltb 1 k && leb (w k) (w (k - 1))) = above-nothing word before (w (k - 1)) k p (omega (arith, F .high-is)) before-is ∙ rw word-is in
         rw (← fields-of .height-is, ← fields-of .then-is, ← fields-of .else-is, ne-eqb h 0 tall, ← q)
 
     pub too-tall : n < h → refusal 4 k ≡ checkRecord w n k
@@ -60,28 +59,25 @@ module _ (w : Words) (n k h a b word before : ℕ) (p : 0 < k) (word-is : word �
       at5 : checkRecord w n k ≡ left5
       at5 = at4 ∙ rw (le-ltb n h low)
 
-      pub falls : word ≤ before → refusal 5 k ≡ checkRecord w n k
-      unfolding left5
-      falls l = sym (at5 ∙ rw (le-leb word before l))
-
-      module _ (rises : before < word) (c : Bool) (c-is : c ≡ misled w k a) where
-        at6 : checkRecord w n k ≡ left6
+      -- the next two tests, f and c
+      module _ (f : Bool) (f-is : f ≡ leb word before) (c : Bool) (c-is : c ≡ (misled w k a || misled w k b)) where
+        pub falls : f ≡ true → refusal 5 k ≡ checkRecord w n k
         unfolding left5
-        at6 = at5 ∙ rw (lt-leb word before rises)
+        falls e = sym (at5 ∙ rw (sym f-is ∙ e))
 
-        pub high-misled : c ≡ true → refusal 6 k ≡ checkRecord w n k
-        unfolding left6
-        high-misled e = sym (at6 ∙ rw (← c-is, e))
+        module _ (f-no : f ≡ false) where
+          at6 : checkRecord w n k ≡ left6
+          unfolding left5
+          at6 = at5 ∙ rw (sym f-is ∙ f-no)
 
-        module _ (c-no : c ≡ false) (d : Bool) (d-is : d ≡ misled w k b) where
-          pub low-misled : d ≡ true → refusal 6 k ≡ checkRecord w n k
+          pub leads-up : c ≡ true → refusal 6 k ≡ checkRecord w n k
           unfolding left6
-          low-misled e = sym (at6 ∙ rw (or-either (misled w k a) (sym d-is ∙ e)))
+          leads-up e = sym (at6 ∙ rw (sym c-is ∙ e))
 
-          module _ (d-no : d ≡ false) (g : Bool) (g-is : g ≡ eqb (a % 2) 1) where
+          module _ (c-no : c ≡ false) (g : Bool) (g-is : g ≡ eqb (a % 2) 1) where
             at7 : checkRecord w n k ≡ left7
             unfolding left6
-            at7 = at6 ∙ rw (join-false (sym c-is ∙ c-no) (sym d-is ∙ d-no))
+            at7 = at6 ∙ rw (sym c-is ∙ c-no)
 
             pub then-flagged : g ≡ true → refusal 7 k ≡ checkRecord w n k
             unfolding left7

@@ -1,6 +1,6 @@
 // Checking, counting and testing. No operation has a `requires`: every table, sheet and setup gets its answer or its refusal.
 ghost use mathlib.Core.Path.{_≡_};
-ghost use mathlib.Core.Bool.{not};
+ghost use mathlib.Core.Bool.{not, _||_};
 ghost use Prim.Native.Nat.{_+_, _-_, _*_, _/_, _%_, _≤_, _<_, _^_};
 ghost use lib.ListN.{length, set};
 ghost use Rattle.words.specs.Words.{wordAt, putWord, wordsOver};
@@ -144,6 +144,17 @@ fn is_misled(table: &[u8], k: usize, h: u64, e: Edge) -> bool
     h <= diagram::height_at(table, node)
 }
 
+// Whether one of the edges of record k does.
+fn has_misled(table: &[u8], k: usize, fields: Record) -> bool
+    requires { ⌜ (fields .height ≡ height (wordAt (now table)) k) × (8 * k + 8 ≤ length (now table)) ⌝ }
+    ensures { λ r. ⌜ r ≡ (misled (wordAt (now (table .entry))) k (fields .high .value) || misled (wordAt (now (table .entry))) k (fields .low .value)) ⌝ }
+{
+    if is_misled(table, k, fields.height, fields.high) {
+        return true;
+    }
+    is_misled(table, k, fields.height, fields.low)
+}
+
 // Rules 4 to 8, of record k, which is `word` and comes after `before`.
 fn check_record(table: &[u8], n: u64, k: usize, word: u64, before: u64) -> Verdict
     requires { ⌜ (0 < k) × (8 * k + 8 ≤ length (now table)) × (word ≡ wordAt (now table) k) × (before ≡ previous (wordAt (now table)) k) ⌝ }
@@ -157,13 +168,12 @@ fn check_record(table: &[u8], n: u64, k: usize, word: u64, before: u64) -> Verdi
     if n < h {
         return Verdict::Refused(Refusal::Height(Node(k)));
     }
-    if word <= before {
+    let falls = word <= before;
+    let misled = has_misled(table, k, record);
+    if falls {
         return Verdict::Refused(Refusal::Order(Node(k)));
     }
-    if is_misled(table, k, h, record.high) {
-        return Verdict::Refused(Refusal::Target(Node(k)));
-    }
-    if is_misled(table, k, h, record.low) {
+    if misled {
         return Verdict::Refused(Refusal::Target(Node(k)));
     }
     if record.high.flagged() {
@@ -255,19 +265,19 @@ fn enter_node(table: &[u8], sheet: &mut [u8], marks: &mut [u8], k: usize, word: 
     words::put_word(sheet, k, c);
 }
 
-// Fills places 0 to N with the counts, and marks the nodes that a record names.
-fn count_nodes(table: &[u8], sheet: &mut [u8], marks: &mut [u8], n: u64, nodes: usize)
-    requires { ⌜ Holds (now table) n nodes × (8 * nodes + 8 ≤ length (now sheet)) × (nodes < length (now marks)) × Marked (now marks) 0 (wordAt (now table)) ⌝ }
-    ensures { λ _. ⌜ (now (sheet .exit) ≡ wordsOver (place (wordAt (now (table .entry)))) (nodes + 1) (now (sheet .entry)))
-        × (length (now (marks .exit)) ≡ length (now (marks .entry))) × Marked (now (marks .exit)) nodes (wordAt (now (table .entry))) ⌝ }
+// Fills places 0 to `top` with the counts, and marks the nodes that a record names.
+fn count_nodes(table: &[u8], sheet: &mut [u8], marks: &mut [u8], n: u64, top: usize)
+    requires { ⌜ Holds (now table) n top × (8 * top + 8 ≤ length (now sheet)) × (top < length (now marks)) × Marked (now marks) 0 (wordAt (now table)) ⌝ }
+    ensures { λ _. ⌜ (now (sheet .exit) ≡ wordsOver (place (wordAt (now (table .entry)))) (top + 1) (now (sheet .entry)))
+        × (length (now (marks .exit)) ≡ length (now (marks .entry))) × Marked (now (marks .exit)) top (wordAt (now (table .entry))) ⌝ }
 {
     words::put_word(sheet, 0, 1);
-    let mut word = word_after(table, 0, nodes);
+    let mut word = word_after(table, 0, top);
     let mut k = 0;
-    while k < nodes {
+    while k < top {
         k += 1;
         let this = word;
-        word = word_after(table, k, nodes);
+        word = word_after(table, k, top);
         enter_node(table, sheet, marks, k, this);
     }
 }

@@ -13,12 +13,12 @@ use Rattle.checking.proofs.count_nodes.Statement.{statement}
 use Rattle.checking.proofs.count_nodes.Tie as tie
 
 abbrev Inv-loop : tie.InvT-loop
-Inv-loop table sheet₀ marks₀ n nodes word₀ k₀ sheet marks word k =
-    (k ≤ nodes) × (sheet ≡ wordsOver (place (wordAt table)) (k + 1) sheet₀) × (length marks ≡ length marks₀) × Marked marks k (wordAt table)
-    × (k < nodes → word ≡ wordAt table (k + 1))
+Inv-loop table sheet₀ marks₀ n top word₀ k₀ sheet marks word k =
+    (k ≤ top) × (sheet ≡ wordsOver (place (wordAt table)) (k + 1) sheet₀) × (length marks ≡ length marks₀) × Marked marks k (wordAt table)
+    × (k < top → word ≡ wordAt table (k + 1))
 
 abbrev μ-loop : tie.MeasureT-loop
-μ-loop table sheet₀ marks₀ n nodes word₀ k₀ sheet marks word k = nodes - k
+μ-loop table sheet₀ marks₀ n top word₀ k₀ sheet marks word k = top - k
 
 put-word-requires : tie.Need-put-word-requires Inv-loop μ-loop
 put-word-requires c κs = omega (arith, c .before .before .before .before .pre .1)
@@ -73,7 +73,7 @@ returns : tie.Need-returns Inv-loop μ-loop
 returns c =
     let a = c .before .before .before .before .before .before .before .before .before .before in
     let i = c .before .loop in
-    let e : i .k ≡ a .args .nodes = omega (arith, c .loop-test .left, i .inv .0) in (
+    let e : i .k ≡ a .args .top = omega (arith, c .loop-test .left, i .inv .0) in (
       fill-last _ _ _ (a .pre .0) _ _ _ (omega (arith, a .pre .1)) (c .before .before .before .before .before .put-word .ensures) (i .inv .1 ∙ rw e),
       i .inv .2,
       subst (λ (m : ℕ). Marked (i .marks) m (wordAt (a .args .table .now))) e (i .inv .3),
