@@ -1,0 +1,39 @@
+-- `checking::naming::check_marks` meets its contract. The loop's invariant: nodes 1 to k - 1 are marked. Assumes nothing.
+use Prim.Native.Nat.{ℕ, zero, suc, _+_, _-_, _<_, _≤_}
+use mathlib.Core.Path.{_≡_, refl, sym, ap, subst, _∙_}
+use native.Mathlib.Omega.{arith}
+use borrow.Author.Needs.{needs}
+use Rattle.diagram.specs.Answer.{pass, each}
+use Rattle.checking.specs.Inner.{checkMarks}
+use Rattle.checking.proofs.Checks.{marks-refused, marks-passed}
+use Rattle.checking.proofs.naming.check_marks.Statement.{statement}
+use Rattle.checking.proofs.naming.check_marks.Tie as tie
+
+abbrev Inv-loop : tie.InvT-loop
+Inv-loop marks nodes k₀ k = (0 < k) × (k - 1 ≤ nodes - 1) × (checkMarks marks k ≡ pass)
+
+abbrev μ-loop : tie.MeasureT-loop
+μ-loop marks nodes k₀ k = nodes - k
+
+loop-holds : tie.Need-loop-holds Inv-loop μ-loop
+unfolding checkMarks each
+loop-holds c = (omega arith, omega arith, refl)
+
+returns : tie.Need-returns Inv-loop μ-loop
+returns c = let i = c .before .before .before .loop in marks-refused _ _ _ (i .inv .0) (c .before .before .loop-test .taken) (i .inv .2) (c .if1 .taken)
+
+loop-again : tie.Need-loop-again Inv-loop μ-loop
+loop-again c = let i = c .before .before .before .loop in (omega arith, omega arith, marks-passed _ _ (i .inv .0) (i .inv .2) (c .if1 .left))
+
+returns-2 : tie.Need-returns-2 Inv-loop μ-loop
+unfolding checkMarks
+returns-2 c =
+    let a = c .before .before .args in
+    let i = c .before .loop in
+    let e : i .k - 1 ≡ a .nodes - 1 = omega arith in
+    sym (i .inv .2) ∙ rw e
+
+pub check-marks-spec : {M : Type 1} → statement M
+check-marks-spec =
+    tie.close
+    (tie.spec Inv-loop μ-loop loop-holds (λ c. search needs) returns (λ c. search needs) (λ c. search needs) loop-again returns-2)
