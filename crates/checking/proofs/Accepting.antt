@@ -1,7 +1,7 @@
 -- An operation after the check: its refusal is handed on, and otherwise the table is accepted and the sheet holds the counts. Assumes nothing.
 use Prim.Native.Nat.{ℕ, _+_, _*_, _/_, _%_, _^_, _≤_, _<_}
 use mathlib.Core.Path.{_≡_, sym, ap, subst, _∙_}
-use mathlib.Core.Bool.{Bool, true, false, cond}
+use mathlib.Core.Bool.{Bool, cond}
 use mathlib.Core.List.{List}
 use native.Mathlib.Omega.{arith}
 use native.Mathlib.Nat.{one-mul, mod-eq-of-lt}
@@ -15,10 +15,10 @@ use Rattle.diagram.specs.Format.{Words, settings, nodes, root, height}
 use Rattle.diagram.specs.Meaning.{under, permitted}
 use Rattle.diagram.specs.Count.{place, total, edgeCount}
 use Rattle.diagram.specs.Answer.{Answer, value, refusal, andThen}
-use Rattle.diagram.specs.Ordered.{Holds, Accepted}
+use Rattle.diagram.specs.Ordered.{HasDiagram, Accepted}
 use Rattle.diagram.specs.Reading.{IsHeader, Within}
 use Rattle.diagram.proofs.Paths.{height-le-settings}
-use Rattle.diagram.proofs.Counts.{through, total-root}
+use Rattle.diagram.proofs.Counts.{total-root}
 use Rattle.diagram.proofs.Accept.{check-accepted}
 use Rattle.checking.specs.declared.Checked.{Checked}
 use Rattle.checking.specs.declared.Checked.the-variants.{Table}
@@ -59,7 +59,7 @@ module _ (t s out : List ℕ) (a : Checked) (is : (checkedAs a ≡ checking t s)
       nodes-is : shape .nodes ≡ N
       nodes-is = sym (accepted .0 .has-nodes) ∙ sym (h .nodes-is)
 
-      pub table-holds : Holds t n N
+      pub table-holds : HasDiagram t n N
       table-holds =
           let A = accepted .0 in
           record {

@@ -1,6 +1,6 @@
 -- What the operations answer fits the packed form: places up to 65,535, n up to 63 and N up to 65,535. Assumes nothing.
 use Prim.Native.Nat.{ℕ, _+_, _/_, _^_, _≤_, _<_}
-use mathlib.Core.Path.{_≡_, sym, _∙_}
+use mathlib.Core.Path.{_≡_, sym}
 use mathlib.Core.List.{List}
 use native.Mathlib.Omega.{arith}
 use lib.Dec.{leb}
@@ -10,7 +10,7 @@ use Rattle.words.proofs.Laws.{word-fits}
 use Rattle.diagram.specs.Format.{settings, highField}
 use Rattle.diagram.specs.Meaning.{permitted}
 use Rattle.diagram.specs.Count.{total}
-use Rattle.diagram.specs.Answer.{Answer, value, refusal, andThen}
+use Rattle.diagram.specs.Answer.{value}
 use Rattle.diagram.proofs.Accept.{check-accepted}
 use Rattle.diagram.proofs.Refusals.{Refuses, passes, unless, then-refuses, check-place}
 use Rattle.checking.specs.Operations.{checking, counting, testing}

@@ -1,5 +1,5 @@
 -- Filling the sheet place by place, in the terms of the loop that does it. Assumes nothing.
-use Prim.Native.Nat.{ℕ, suc, _+_, _*_, _≤_, _<_}
+use Prim.Native.Nat.{ℕ, _+_, _*_, _≤_, _<_}
 use mathlib.Core.Path.{_≡_, sym, ap, ap₂, _∙_}
 use mathlib.Core.List.{List}
 use native.Mathlib.Omega.{arith}
@@ -9,12 +9,12 @@ use Rattle.words.specs.Words.{wordAt, putWord, wordsOver}
 use Rattle.words.proofs.Laws.{no-words, put-next, over-over, words-read, length-wordsOver}
 use Rattle.diagram.specs.Format.{Words}
 use Rattle.diagram.specs.Count.{place}
-use Rattle.diagram.specs.Ordered.{Holds}
+use Rattle.diagram.specs.Ordered.{HasDiagram}
 use Rattle.diagram.proofs.Paths.{height-le-settings}
 use Rattle.checking.specs.Inner.{Ready}
 use Rattle.checking.proofs.Places.{place-fits, place-sink}
 
-module _ (t : List ℕ) (n N : ℕ) (H : Holds t n N) where
+module _ (t : List ℕ) (n N : ℕ) (H : HasDiagram t n N) where
   abbrev w : Words
   w = wordAt t
 

@@ -8,7 +8,7 @@ use native.Mathlib.Nat.{add-comm}
 use lib.Dec.{eqb}
 use lib.ListN.{length, getD, set, length-set}
 use lib.Seq.{getD-set-same, getD-set-other}
-use borrow.Author.Tests.{eqb-true, eqb-false, eq-eqb, ne-eqb}
+use borrow.Author.Tests.{eqb-true, eqb-false}
 use Rattle.words.specs.Words.{wordAt}
 use Rattle.words.proofs.Cases.{or-either}
 use Rattle.diagram.specs.Format.{Words, height, thenEdge, elseEdge}

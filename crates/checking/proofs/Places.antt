@@ -3,7 +3,7 @@ use Prim.Native.Nat.{ℕ, _-_, _*_, _%_, _^_, _≤_, _<_}
 use mathlib.Core.Path.{_≡_, refl, sym, _∙_}
 use mathlib.Core.Bool.{Bool, true, false}
 use native.Mathlib.Omega.{arith}
-use native.Mathlib.Nat.{mul-comm, one-mul, mod-eq-of-lt, lt-of-le-of-lt, le-refl, mul-le-mul-left, sub-add-cancel, le-trans, le-of-eq}
+use native.Mathlib.Nat.{mul-comm, one-mul, mod-eq-of-lt, lt-of-le-of-lt, mul-le-mul-left, sub-add-cancel, le-trans, le-of-eq}
 use lib.Dec.{eqb}
 use lib.Pow.{pow-lt, pow-add}
 use borrow.Author.Tests.{eqb-true, eqb-false}

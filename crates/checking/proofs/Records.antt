@@ -1,11 +1,11 @@
 -- Rules 4 to 8 of a record, each where those before it passed, in the terms of the code. Assumes nothing.
-use Prim.Native.Nat.{ℕ, zero, suc, _+_, _-_, _/_, _%_, _≤_, _<_}
-use mathlib.Core.Path.{_≡_, refl, sym, ap, _∙_}
+use Prim.Native.Nat.{ℕ, zero, suc, _+_, _-_, _%_, _≤_, _<_}
+use mathlib.Core.Path.{_≡_, sym, _∙_}
 use mathlib.Core.Bool.{Bool, true, false, cond, _&&_, _||_}
 use native.Mathlib.Omega.{arith}
 use lib.Dec.{eqb, ltb, leb}
 use borrow.Author.Tests.{lt-ltb, le-ltb, lt-leb, eq-eqb, ne-eqb}
-use Rattle.diagram.specs.Format.{Words, highField, height, thenEdge, elseEdge}
+use Rattle.diagram.specs.Format.{Words, highField}
 use Rattle.diagram.specs.Answer.{Answer, refusal, pass}
 use Rattle.diagram.specs.Rules.{misled, checkRecord}
 use Rattle.diagram.specs.Reading.{HasFields, IsRecord}

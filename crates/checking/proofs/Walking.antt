@@ -1,13 +1,13 @@
 -- One step of a setup through the diagram, in the terms of the code. Assumes nothing.
-use Prim.Native.Nat.{ℕ, _+_, _-_, _/_, _%_, _^_, _≤_, _<_}
-use mathlib.Core.Path.{_≡_, refl, sym, ap, _∙_}
+use Prim.Native.Nat.{ℕ, _-_, _/_, _%_, _^_, _<_}
+use mathlib.Core.Path.{_≡_, sym, ap, _∙_}
 use mathlib.Core.Bool.{Bool, true, false, not, Bool·not-not}
 use mathlib.Core.List.{List}
 use native.Mathlib.Omega.{arith}
 use lib.Dec.{eqb}
 use borrow.Author.Tests.{eqb-true, eqb-false, eq-eqb, ne-eqb}
 use Rattle.words.specs.Words.{wordAt}
-use Rattle.diagram.specs.Format.{Words, height, thenEdge, elseEdge}
+use Rattle.diagram.specs.Format.{Words, height}
 use Rattle.diagram.specs.Meaning.{bit, branch, flip, holds, plain, under}
 use Rattle.diagram.specs.Reading.{IsRecord, Within}
 use Rattle.diagram.proofs.Paths.{Lower, tall-node, branch-lower, plain-branch}

@@ -5,7 +5,7 @@ ghost use lib.ListN.{length};
 ghost use Rattle.words.specs.Words.{wordAt, wordsOver};
 ghost use Rattle.diagram.specs.Count.{place};
 ghost use Rattle.diagram.specs.Rules.{checkNames};
-ghost use Rattle.diagram.specs.Ordered.{Holds};
+ghost use Rattle.diagram.specs.Ordered.{HasDiagram};
 ghost use Rattle.checking.specs.Answers.{verdictAs};
 ghost use Rattle.checking.specs.Inner.{Marked, checkMarks};
 use crate::Refusal;
@@ -29,7 +29,7 @@ fn check_marks(marks: &[u8], nodes: usize) -> Verdict
 
 // Fills places 0 to N with the counts, and checks rule 9 by marks that are clear.
 fn count_named(table: &[u8], sheet: &mut [u8], marks: &mut [u8], n: u64, nodes: usize) -> Verdict
-    requires { ⌜ Holds (now table) n nodes × (8 * nodes + 8 ≤ length (now sheet)) × (nodes < length (now marks)) × Marked (now marks) 0 (wordAt (now table)) ⌝ }
+    requires { ⌜ HasDiagram (now table) n nodes × (8 * nodes + 8 ≤ length (now sheet)) × (nodes < length (now marks)) × Marked (now marks) 0 (wordAt (now table)) ⌝ }
     ensures { λ r. ⌜ (verdictAs r ≡ checkNames (wordAt (now (table .entry))) nodes)
         × (now (sheet .exit) ≡ wordsOver (place (wordAt (now (table .entry)))) (nodes + 1) (now (sheet .entry))) ⌝ }
 {
@@ -39,7 +39,7 @@ fn count_named(table: &[u8], sheet: &mut [u8], marks: &mut [u8], n: u64, nodes: 
 
 // The same with marks on the stack, of which small tables clear fewer.
 pub fn check_names(table: &[u8], sheet: &mut [u8], n: u64, nodes: usize) -> Verdict
-    requires { ⌜ Holds (now table) n nodes × (8 * nodes + 8 ≤ length (now sheet)) ⌝ }
+    requires { ⌜ HasDiagram (now table) n nodes × (8 * nodes + 8 ≤ length (now sheet)) ⌝ }
     ensures { λ r. ⌜ (verdictAs r ≡ checkNames (wordAt (now (table .entry))) nodes)
         × (now (sheet .exit) ≡ wordsOver (place (wordAt (now (table .entry)))) (nodes + 1) (now (sheet .entry))) ⌝ }
 {

@@ -1,7 +1,7 @@
 -- A table is accepted exactly if the rules hold field by field. Assumes nothing.
 use Prim.Native.Nat.{ℕ, zero, suc, _+_, _-_, _*_, _/_, _%_, _≤_, _<_}
-use mathlib.Core.Path.{_≡_, refl, sym, ap, ap₂, _∙_, subst}
-use mathlib.Core.Logic.{_⊎_, inl, inr}
+use mathlib.Core.Path.{_≡_, refl, sym, ap, _∙_, subst}
+use mathlib.Core.Logic.{inl, inr}
 use mathlib.Core.Bool.{Bool, true, false, not, cond, _&&_, _||_}
 use mathlib.Core.List.{List}
 use native.Mathlib.Omega.{arith}
@@ -11,8 +11,7 @@ use borrow.Author.Tests.{ltb-true, ltb-false, leb-false, eqb-true, eqb-false, lt
 use Rattle.words.specs.Words.{wordAt}
 use Rattle.words.proofs.Cases.{or-true, or-false, or-either, join-false, and-false, passed}
 use Rattle.diagram.specs.Format.{Words, settings, nodes, root, height, thenEdge, elseEdge}
-use Rattle.diagram.specs.Count.{someBelow}
-use Rattle.diagram.specs.Answer.{Answer, value, refusal, andThen, pass, each}
+use Rattle.diagram.specs.Answer.{value, refusal, andThen, pass}
 use Rattle.diagram.specs.Rules.{misled, checkRecord, names, named, checkNamed, checkHeader, checkRecords, checkNames, checkDiagram, check, Accepts}
 use Rattle.diagram.specs.Ordered.{Ordered, Reduced, Named, Proper, Accepted}
 use Rattle.diagram.proofs.AnswerLaws.{refused-not, value-inj, then-value, each-all, all-each, some-at, some-found}

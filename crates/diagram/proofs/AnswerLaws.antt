@@ -1,9 +1,9 @@
 -- The laws of answers, of a run of checks, and of a search. Assumes nothing.
 use Prim.Native.Nat.{ℕ, zero, suc, _<_}
-use mathlib.Core.Path.{_≡_, refl, sym, ap, _∙_, subst}
+use mathlib.Core.Path.{_≡_, refl, sym, _∙_, subst}
 use mathlib.Core.Bool.{Bool, true, false, _||_, true≢false}
 use native.Mathlib.Omega.{arith}
-use Rattle.words.proofs.Cases.{Tri, less, same, more, tri, or-either}
+use Rattle.words.proofs.Cases.{less, same, more, tri, or-either}
 use Rattle.diagram.specs.Count.{someBelow}
 use Rattle.diagram.specs.Answer.{Answer, value, refusal, andThen, pass, each}
 

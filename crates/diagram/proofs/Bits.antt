@@ -1,8 +1,8 @@
 -- Laws of a number's bits. Assumes nothing.
-use Prim.Native.Nat.{ℕ, zero, suc, _+_, _-_, _*_, _/_, _%_, _^_, _≤_, _<_}
-use mathlib.Core.Path.{_≡_, refl, sym, ap, _∙_, subst}
-use mathlib.Core.Bool.{Bool, true, false}
-use native.Mathlib.Nat.{sub-add-cancel, mod-mod, mod-lt, div-eq-of-lt, add-div-right, add-mod-right, pow-suc, le-of-lt}
+use Prim.Native.Nat.{ℕ, suc, _+_, _-_, _/_, _%_, _^_, _≤_, _<_}
+use mathlib.Core.Path.{_≡_, ap, subst}
+use mathlib.Core.Bool.{true, false}
+use native.Mathlib.Nat.{mod-mod, mod-lt, div-eq-of-lt, add-div-right, add-mod-right}
 use native.Mathlib.Omega.{arith}
 use lib.Dec.{eqb}
 use lib.Pow.{pow-pos, field, mod-mod-pow, ones-split, high, ones-lt}

@@ -1,17 +1,16 @@
 -- Two proper diagrams over the same settings that permit the same setups are the same. Assumes nothing.
-use Prim.Native.Nat.{ℕ, zero, suc, _+_, _-_, _*_, _/_, _%_, _^_, _≤_, _<_}
-use mathlib.Core.Path.{_≡_, refl, sym, ap, ap₂, _∙_, subst}
+use Prim.Native.Nat.{ℕ, zero, suc, _+_, _-_, _/_, _%_, _^_, _≤_, _<_}
+use mathlib.Core.Path.{_≡_, refl, sym, ap, _∙_, subst}
 use mathlib.Core.Logic.{_⊎_, inl, inr}
-use mathlib.Core.Bool.{Bool, true, false}
 use native.Mathlib.Nat.{le-refl, le-antisymm, mod-lt}
 use native.Mathlib.Omega.{arith}
 use lib.Pow.{pow-pos}
-use Rattle.diagram.specs.Format.{Words, root, height, thenEdge, elseEdge}
-use Rattle.diagram.specs.Meaning.{branch, bit, flip, holds, plain, under, permitted}
+use Rattle.diagram.specs.Format.{Words, height, thenEdge, elseEdge}
+use Rattle.diagram.specs.Meaning.{branch, flip, holds, plain, under}
 use Rattle.diagram.specs.Ordered.{Reduced, Named, Proper}
 use Rattle.diagram.proofs.Paths.{branch-node, height-le-settings}
 use Rattle.diagram.proofs.Local.{under-mod}
-use Rattle.diagram.proofs.Unique.{Unique, same-flag, same-node, node-unique, not-taller, same-then, same-else, ascending, record-fields, unique}
+use Rattle.diagram.proofs.Unique.{same-flag, same-node, node-unique, not-taller, same-then, same-else, ascending, record-fields, unique}
 use Rattle.words.proofs.Cases.{Tri, less, same, more, tri}
 
 -- records that agree give nodes that mean the same

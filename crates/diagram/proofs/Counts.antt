@@ -1,16 +1,13 @@
 -- How the places of the sheet and the total are computed: node by node, over gaps and flags. Assumes nothing.
 use Prim.Native.Nat.{ℕ, zero, suc, _+_, _-_, _*_, _/_, _%_, _^_, _≤_, _<_}
-use mathlib.Core.Path.{_≡_, refl, sym, ap, ap₂, _∙_, subst}
-use mathlib.Core.Logic.{_⊎_, inl, inr}
-use mathlib.Core.Bool.{Bool, true, false, not, cond}
-use native.Mathlib.Nat.{le-refl, le-of-lt, add-mod-left, mod-eq-of-lt, mod-lt, add-comm, zero-add, zero-mul, one-mul, two-pow-succ, sub-add-cancel}
-use lib.Dec.{eqb, lit<}
-use lib.Pow.{pow-pos, pow-add, mod-pow-add}
+use mathlib.Core.Path.{_≡_, refl, sym, ap, ap₂, _∙_}
+use mathlib.Core.Bool.{Bool}
+use native.Mathlib.Nat.{le-refl, add-mod-left, mod-eq-of-lt, add-comm}
 use native.Mathlib.Omega.{arith}
 use Rattle.diagram.specs.Format.{Words, settings, root, height, thenEdge, elseEdge}
-use Rattle.diagram.specs.Meaning.{bit, branch, flip, plain, under, permitted}
+use Rattle.diagram.specs.Meaning.{flip, plain, under, permitted}
 use Rattle.diagram.specs.Count.{countBelow, place, total, opposite, edgeCount}
-use Rattle.diagram.proofs.CountLaws.{count-cong, count-add, count-not, count-blocks, count-gap, count-half}
+use Rattle.diagram.proofs.CountLaws.{count-cong, count-not, count-gap, count-half}
 use Rattle.diagram.proofs.Bits.{withSet, withClear}
 use Rattle.diagram.specs.Ordered.{Ordered}
 use Rattle.diagram.proofs.Paths.{height-le-settings}

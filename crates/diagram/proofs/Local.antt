@@ -1,11 +1,11 @@
 -- A node looks only at the settings below its height: its meaning at a setup with one setting fixed. Assumes nothing.
-use Prim.Native.Nat.{ℕ, zero, suc, _+_, _-_, _*_, _/_, _%_, _^_, _≤_, _<_}
-use mathlib.Core.Path.{_≡_, refl, sym, ap, _∙_, subst}
-use mathlib.Core.Bool.{Bool, true, false, not, cond}
+use Prim.Native.Nat.{ℕ, zero, suc, _-_, _/_, _%_, _^_, _≤_, _<_}
+use mathlib.Core.Path.{_≡_, refl, sym, ap, _∙_}
+use mathlib.Core.Bool.{true, cond}
 use native.Mathlib.Nat.{le-refl}
 use native.Mathlib.Omega.{arith}
 use Rattle.diagram.specs.Format.{Words, height, thenEdge, elseEdge}
-use Rattle.diagram.specs.Meaning.{bit, branch, flip, holds, plain, under}
+use Rattle.diagram.specs.Meaning.{branch, flip, holds, plain, under}
 use Rattle.diagram.specs.Ordered.{Ordered, Reduced}
 use Rattle.diagram.proofs.Paths.{branch-node, branch-height, plain-step}
 use Rattle.diagram.proofs.Bits.{bit-mod, withSet, withClear, bit-set, bit-clear, set-mod, clear-mod, bit-ones}

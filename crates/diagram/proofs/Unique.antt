@@ -1,15 +1,15 @@
 -- Inside one proper diagram two edges with the same meaning are the same edge. Assumes nothing.
 use Prim.Native.Nat.{ℕ, zero, suc, _+_, _-_, _*_, _/_, _%_, _^_, _≤_, _<_}
-use mathlib.Core.Path.{_≡_, refl, sym, ap, ap₂, _∙_, subst}
-use mathlib.Core.Bool.{Bool, true, false, not, true≢false, Bool·not-not}
-use native.Mathlib.Nat.{le-refl, mod-lt, div-div-eq-div-mul}
+use mathlib.Core.Path.{_≡_, refl, sym, ap, ap₂, _∙_}
+use mathlib.Core.Bool.{Bool, true, not, true≢false, Bool·not-not}
+use native.Mathlib.Nat.{div-div-eq-div-mul}
 use native.Mathlib.Omega.{arith}
-use Rattle.diagram.specs.Format.{highField, middleField, lowField, Words, settings, nodes, root, height, thenEdge, elseEdge}
-use Rattle.diagram.specs.Meaning.{flip, holds, plain, under}
+use Rattle.diagram.specs.Format.{highField, middleField, lowField, Words, height, thenEdge, elseEdge}
+use Rattle.diagram.specs.Meaning.{flip, plain, under}
 use Rattle.diagram.proofs.Bits.{withSet, withClear, set-mod, clear-mod}
 use Rattle.diagram.specs.Ordered.{Reduced}
 use Rattle.diagram.proofs.Local.{plain-mod, plain-set, plain-clear, plain-ones}
-use Rattle.words.proofs.Cases.{Tri, less, same, more, tri}
+use Rattle.words.proofs.Cases.{less, same, more, tri}
 
 -- a word is its fields
 pub word-fields : (v : ℕ) → v ≡ highField v * 2 ^ 58 + middleField v * 2 ^ 29 + lowField v
@@ -22,12 +22,6 @@ pub record-fields : (w : Words) (j : ℕ) (w′ : Words) (k : ℕ) → height w 
 unfolding height thenEdge elseEdge
 record-fields w j w′ k p q r =
     word-fields (w (suc j)) ∙ ap₂ _+_ (ap₂ _+_ (ap (λ a. a * 2 ^ 58) p) (ap (λ a. a * 2 ^ 29) q)) r ∙ sym (word-fields (w′ (suc k)))
-
--- a header is its three fields
-pub header-fields : (w w′ : Words) → settings w ≡ settings w′ → nodes w ≡ nodes w′ → root w ≡ root w′ → w 0 ≡ w′ 0
-unfolding settings nodes root
-header-fields w w′ p q r =
-    word-fields (w 0) ∙ ap₂ _+_ (ap₂ _+_ (ap (λ a. a * 2 ^ 58) p) (ap (λ a. a * 2 ^ 29) q)) r ∙ sym (word-fields (w′ 0))
 
 -- two flags that turn `true` alike are equal
 flip-true : (f g : ℕ) → f < 2 → g < 2 → flip f true ≡ flip g true → f ≡ g

@@ -1,5 +1,5 @@
 -- The rules as facts about words, one field each: what the inner functions require and the laws are over. Shown equivalent to the rules in proofs/Accept. Assumes nothing.
-use Prim.Native.Nat.{ℕ, zero, suc, _+_, _*_, _/_, _%_, _≤_, _<_}
+use Prim.Native.Nat.{ℕ, suc, _+_, _*_, _/_, _%_, _≤_, _<_}
 use mathlib.Core.Path.{_≡_}
 use mathlib.Core.Logic.{_⊎_, _≢_}
 use mathlib.Core.List.{List}
@@ -33,7 +33,7 @@ pub record Proper (w : Words) (n N : ℕ) : Type 0 where
   pub named : Named w N
 
 -- bytes that hold an ordered diagram of n settings and N nodes, record k as word k
-pub record Holds (bytes : List ℕ) (n N : ℕ) : Type 0 where
+pub record HasDiagram (bytes : List ℕ) (n N : ℕ) : Type 0 where
   pub long : 8 * N + 8 ≤ length bytes
   pub few : N ≤ 65535
   pub few-settings : n ≤ 63

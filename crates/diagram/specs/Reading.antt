@@ -1,10 +1,9 @@
 -- What the functions that read a table answer, and what they need: for inner contracts only. Assumes nothing.
-use Prim.Native.Nat.{ℕ, _+_, _*_, _≤_, _<_}
+use Prim.Native.Nat.{ℕ, _≤_, _<_}
 use mathlib.Core.Path.{_≡_}
 use mathlib.Core.List.{List}
-use lib.ListN.{length}
 use Rattle.diagram.specs.Format.{Words, highField, middleField, lowField, settings, nodes, root, height, thenEdge, elseEdge}
-use Rattle.diagram.specs.Ordered.{Holds}
+use Rattle.diagram.specs.Ordered.{HasDiagram}
 
 -- the three fields of word v
 pub record HasFields (v h t e : ℕ) : Type 0 where
@@ -35,5 +34,5 @@ pub record IsRecord (w : Words) (k h t e : ℕ) : Type 0 where
 pub record Within (bytes : List ℕ) (k : ℕ) : Type 0 where
   pub settings : ℕ
   pub nodes : ℕ
-  pub holds : Holds bytes settings nodes
+  pub holds : HasDiagram bytes settings nodes
   pub inside : k ≤ nodes

@@ -1,14 +1,11 @@
 -- The samples hold, all of the list: by computing, but for 2 ^ 63 setups, which the law of the root edge counts. Assumes nothing.
-use Prim.Native.Nat.{ℕ, _+_, _*_, _^_}
-use mathlib.Core.Path.{_≡_, refl, ap, _∙_}
-use mathlib.Core.List.{List}
+use mathlib.Core.Path.{_≡_, refl, ap}
 use lib.Dec.{lit≤}
-use lib.ListN.{length}
 use Rattle.words.specs.Words.{beAt, wordAt, bytesOf}
 use Rattle.diagram.specs.Format.{highField, middleField, lowField, settings, nodes, root, height, thenEdge, elseEdge}
 use Rattle.diagram.specs.Meaning.{bit, branch, flip, holds, plain, under, permitted}
 use Rattle.diagram.specs.Count.{indicator, countBelow, someBelow, place, total, opposite, edgeCount}
-use Rattle.diagram.specs.Answer.{value, refusal, andThen, each}
+use Rattle.diagram.specs.Answer.{value, andThen, each}
 use Rattle.diagram.specs.Rules.{misled, checkRecord, names, named, checkNamed, checkHeader, checkRecords, checkNames, checkDiagram, check}
 use Rattle.diagram.proofs.Counts.{total-root}
 use Rattle.diagram.proofs.Accept.{accepts-accepted}

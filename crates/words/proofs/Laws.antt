@@ -1,16 +1,16 @@
 -- Laws of words in bytes: what the code's loads and stores are, and what is read where words were written. Assumes nothing.
 use Prim.Native.Nat.{ℕ, zero, suc, _+_, _-_, _*_, _/_, _%_, _^_, _≤_, _<_}
 use mathlib.Core.Path.{_≡_, refl, sym, ap, ap₂, _∙_, subst}
-use mathlib.Core.List.{List, [], _∷_, _++_, append-assoc}
+use mathlib.Core.List.{List, _++_, append-assoc}
 use native.Mathlib.Omega.{arith}
 use native.Mathlib.Nat.{div-div-eq-div-mul, pow-suc, mod-eq-of-lt, mod-one, div-one, one-le-pow, add-zero}
 use native.Mathlib.Numerals.{towards-suc}
 use lib.Dec.{lit<}
 use lib.Arith.{mod-mul}
-use lib.ListN.{length, getD, set, take, drop, length-append, length-drop, List·getD-append}
+use lib.ListN.{length, getD, set, drop, length-append, length-drop, List·getD-append}
 use lib.Seq.{getD-append-add, take-at, drop-at, drop-drop, drop-append-add, sets-eq}
 use Rattle.words.specs.Words.{beAt, wordAt, bytesOf, putWord, wordsBytes, wordsOver}
-use Rattle.words.proofs.Cases.{Tri, less, same, more, tri}
+use Rattle.words.proofs.Cases.{less, same, more, tri}
 
 -- eight bytes in two halves, as the code reads them
 pub word-halves : (l : List ℕ) (k : ℕ)

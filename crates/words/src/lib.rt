@@ -1,6 +1,6 @@
 // Words of 64 bits in a slice of bytes, most significant byte first: a read is one load and a byte swap, and so is a store.
 ghost use mathlib.Core.Path.{_≡_};
-ghost use Prim.Native.Nat.{_+_, _*_, _≤_, _<_};
+ghost use Prim.Native.Nat.{_+_, _*_, _≤_};
 ghost use lib.ListN.{length};
 ghost use Rattle.words.specs.Words.{wordAt, putWord};
 

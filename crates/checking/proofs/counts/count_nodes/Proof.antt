@@ -1,5 +1,5 @@
 -- `checking::counts::count_nodes` meets its contract. The loop's invariant: places 0 to k are filled, what records 1 to k name is marked, and the next record is at hand. Assumes nothing.
-use Prim.Native.Nat.{ℕ, _+_, _-_, _*_, _≤_, _<_}
+use Prim.Native.Nat.{ℕ, _+_, _-_, _≤_, _<_}
 use mathlib.Core.Path.{_≡_, refl, ap, subst, _∙_}
 use native.Mathlib.Omega.{arith}
 use lib.ListN.{length}
