@@ -13,10 +13,10 @@ use Rattle.words.specs.Words.{wordAt, wordsOver}
 use Rattle.words.proofs.Laws.{words-read, length-wordsOver}
 use Rattle.diagram.specs.Format.{Words, settings, nodes, root, height}
 use Rattle.diagram.specs.Meaning.{under, permitted}
-use Rattle.diagram.specs.Count.{place, total, edgeCount}
+use Rattle.diagram.specs.Count.{place, total}
 use Rattle.diagram.specs.Answer.{Answer, value, refusal, andThen}
 use Rattle.diagram.specs.Ordered.{HasDiagram, Accepted}
-use Rattle.diagram.specs.Reading.{IsHeader, Within}
+use Rattle.diagram.specs.Reading.{IsHeader, Within, edgeCount}
 use Rattle.diagram.proofs.Paths.{height-le-settings}
 use Rattle.diagram.proofs.Counts.{total-root}
 use Rattle.diagram.proofs.Accept.{check-accepted}

@@ -36,7 +36,7 @@ module _ (t : List ℕ) (n N : ℕ) (H : HasDiagram t n N) where
     long : length s ≡ length s₀
     long = ap length so-far ∙ length-wordsOver (place w) (k + 1) s₀ (omega arith)
 
-    pub fill-ready : Ready t s (k + 1) (k + 1)
+    pub fill-ready : Ready t s (k + 1)
     fill-ready = record {
       within = record { settings = n; nodes = N; holds = H; inside = omega arith };
       room = omega (arith, long);

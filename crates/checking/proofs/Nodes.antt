@@ -12,10 +12,10 @@ use borrow.Author.Tests.{eqb-true, eqb-false}
 use Rattle.words.specs.Words.{wordAt}
 use Rattle.words.proofs.Cases.{or-either}
 use Rattle.diagram.specs.Format.{Words, height, thenEdge, elseEdge}
-use Rattle.diagram.specs.Count.{indicator, someBelow, place, edgeCount}
+use Rattle.diagram.specs.Count.{indicator, someBelow, place}
 use Rattle.diagram.specs.Rules.{names, named}
 use Rattle.diagram.specs.Ordered.{Ordered}
-use Rattle.diagram.specs.Reading.{IsRecord, Within}
+use Rattle.diagram.specs.Reading.{IsRecord, Within, edgeCount}
 use Rattle.diagram.proofs.Paths.{Lower, tall-node, then-lower, else-lower}
 use Rattle.diagram.proofs.Counts.{through, place-rec}
 use Rattle.checking.specs.Inner.{HoldsPlaces, Ready, Marked}
@@ -27,7 +27,7 @@ counts : (t s : List ℕ) (e h g filled : ℕ) → HoldsPlaces (wordAt s) filled
 counts t s e h g filled f l m p i j = (m, rw (f (e / 2) l, p) (place-le (wordAt t) (e / 2)), i, j)
 
 -- node k, with its record, where the places below it are filled; f and g are the heights of its edges' nodes
-module _ (t s : List ℕ) (k h a b : ℕ) (p : 0 < k) (R : Ready t s k k) (r : IsRecord (wordAt t) k h a b) where
+module _ (t s : List ℕ) (k h a b : ℕ) (p : 0 < k) (R : Ready t s k) (r : IsRecord (wordAt t) k h a b) where
   abbrev w : Words
   w = wordAt t
 

@@ -9,7 +9,8 @@ use lib.Pow.{pow-lt, pow-add}
 use borrow.Author.Tests.{eqb-true, eqb-false}
 use Rattle.diagram.specs.Format.{Words, height}
 use Rattle.diagram.specs.Meaning.{plain, holds}
-use Rattle.diagram.specs.Count.{indicator, countBelow, place, opposite, edgeCount}
+use Rattle.diagram.specs.Count.{indicator, countBelow, place}
+use Rattle.diagram.specs.Reading.{opposite, edgeCount}
 use Rattle.diagram.proofs.CountLaws.{count-le}
 
 -- an edge with flag f from height h to a node of height g and count c, as shifts make it

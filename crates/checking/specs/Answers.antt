@@ -51,11 +51,6 @@ abbrev pub checkedAs : Checked → Answer (ℕ × ℕ)
 checkedAs (checked.Table s) = value (s .settings, s .nodes)
 checkedAs (checked.Refused r) = refusal (numberOf r) (placeOf r)
 
--- an answer of the check that is a refusal
-abbrev pub IsRefused : Checked → Type 0
-IsRefused (checked.Table s) = ⊥
-IsRefused (checked.Refused r) = Unit {0}
-
 -- C
 abbrev pub countedAs : Counted → Answer ℕ
 countedAs (counted.Total c) = value c

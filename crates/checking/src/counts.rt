@@ -3,9 +3,9 @@ ghost use mathlib.Core.Path.{_≡_};
 ghost use Prim.Native.Nat.{_+_, _-_, _*_, _/_, _%_, _≤_, _<_, _^_};
 ghost use lib.ListN.{length, set};
 ghost use Rattle.words.specs.Words.{wordAt, putWord, wordsOver};
-ghost use Rattle.diagram.specs.Count.{place, edgeCount};
+ghost use Rattle.diagram.specs.Count.{place};
 ghost use Rattle.diagram.specs.Ordered.{HasDiagram};
-ghost use Rattle.diagram.specs.Reading.{IsRecord};
+ghost use Rattle.diagram.specs.Reading.{IsRecord, edgeCount};
 ghost use Rattle.checking.specs.Inner.{Ready, Marked};
 use diagram::Edge;
 use diagram::Record;
@@ -24,7 +24,7 @@ pub fn count_edge(sheet: &[u8], e: Edge, g: u64, h: u64) -> u64
 
 // The count of node k, by the fields of its record and the places of the nodes below it.
 fn count_node(table: &[u8], sheet: &[u8], k: usize, fields: Record) -> u64
-    requires { ⌜ (0 < k) × Ready (now table) (now sheet) k k
+    requires { ⌜ (0 < k) × Ready (now table) (now sheet) k
         × IsRecord (wordAt (now table)) k (fields .height) (fields .high .value) (fields .low .value) ⌝ }
     ensures { λ r. ⌜ (r ≡ place (wordAt (now (table .entry))) k) × (r < 18446744073709551616) ⌝ }
 {
@@ -47,7 +47,7 @@ fn mark_named(marks: &mut [u8], fields: Record)
 
 // Fills place k with the count of node k, and marks the nodes that its record names.
 fn enter_node(table: &[u8], sheet: &mut [u8], marks: &mut [u8], k: usize, word: u64)
-    requires { ⌜ (0 < k) × Ready (now table) (now sheet) k k × (word ≡ wordAt (now table) k)
+    requires { ⌜ (0 < k) × Ready (now table) (now sheet) k × (word ≡ wordAt (now table) k)
         × (k < length (now marks)) × Marked (now marks) (k - 1) (wordAt (now table)) ⌝ }
     ensures { λ _. ⌜ (now (sheet .exit) ≡ putWord (now (sheet .entry)) k (place (wordAt (now (table .entry))) k))
         × (length (now (marks .exit)) ≡ length (now (marks .entry))) × Marked (now (marks .exit)) k (wordAt (now (table .entry))) ⌝ }

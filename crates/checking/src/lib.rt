@@ -10,7 +10,8 @@ ghost use lib.ListN.{length};
 ghost use Rattle.words.specs.Words.{wordAt};
 ghost use Rattle.diagram.specs.Answer.{refusal};
 ghost use Rattle.diagram.specs.Rules.{checkDiagram};
-ghost use Rattle.checking.specs.Answers.{numberOf, placeOf, verdictAs, checkedAs, countedAs, testedAs, IsRefused};
+ghost use Rattle.checking.specs.Answers.{numberOf, placeOf, verdictAs, checkedAs, countedAs, testedAs};
+ghost use Rattle.checking.specs.Inner.{IsRefused};
 ghost use Rattle.checking.specs.Operations.{checking, counting, testing, sheetBy, sheetAfter};
 use diagram::Node;
 use diagram::Setup;
@@ -141,7 +142,7 @@ pub fn check(table: &[u8], sheet: &mut [u8]) -> Checked
     })
 }
 
-// The refusal that an answer of the check holds.
+// The refusal that an answer of the check holds. (The other case is required away: no call reaches it.)
 pub fn refusal_of(checked: Checked) -> Refusal
     requires { ⌜ IsRefused checked ⌝ }
     ensures { λ r. ⌜ checkedAs checked ≡ refusal (numberOf r) (placeOf r) ⌝ }

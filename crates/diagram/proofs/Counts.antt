@@ -6,7 +6,8 @@ use native.Mathlib.Nat.{le-refl, add-mod-left, mod-eq-of-lt, add-comm}
 use native.Mathlib.Omega.{arith}
 use Rattle.diagram.specs.Format.{Words, settings, root, height, thenEdge, elseEdge}
 use Rattle.diagram.specs.Meaning.{flip, plain, under, permitted}
-use Rattle.diagram.specs.Count.{countBelow, place, total, opposite, edgeCount}
+use Rattle.diagram.specs.Count.{countBelow, place, total}
+use Rattle.diagram.specs.Reading.{opposite, edgeCount}
 use Rattle.diagram.proofs.CountLaws.{count-cong, count-not, count-gap, count-half}
 use Rattle.diagram.proofs.Bits.{withSet, withClear}
 use Rattle.diagram.specs.Ordered.{Ordered}

@@ -8,6 +8,15 @@ use Rattle.diagram.specs.Format.{Words, height, thenEdge, elseEdge}
 use Rattle.diagram.specs.Meaning.{bit, branch, flip, holds, plain, under}
 use Rattle.diagram.specs.Ordered.{Ordered}
 
+-- edge 0 means always permitted, edge 1 never
+pub under-always : (w : Words) (x : ℕ) → under w 0 x ≡ true
+unfolding under flip plain holds
+under-always w x = refl
+
+pub under-never : (w : Words) (x : ℕ) → under w 1 x ≡ false
+unfolding under flip plain holds
+under-never w x = refl
+
 -- a Boolean choice, by its cases
 choose : (P : ℕ → Type 0) (b : Bool) {t e : ℕ} → P t → P e → P (cond b t e)
 choose P true p q = p

@@ -1,5 +1,5 @@
--- What the functions that read a table answer, and what they need: for inner contracts only. Assumes nothing.
-use Prim.Native.Nat.{ℕ, _≤_, _<_}
+-- What the functions that read and count a table answer, and what they need: for inner contracts only. Assumes nothing.
+use Prim.Native.Nat.{ℕ, zero, suc, _-_, _*_, _^_, _≤_, _<_}
 use mathlib.Core.Path.{_≡_}
 use mathlib.Core.List.{List}
 use Rattle.diagram.specs.Format.{Words, highField, middleField, lowField, settings, nodes, root, height, thenEdge, elseEdge}
@@ -36,3 +36,12 @@ pub record Within (bytes : List ℕ) (k : ℕ) : Type 0 where
   pub nodes : ℕ
   pub holds : HasDiagram bytes settings nodes
   pub inside : k ≤ nodes
+
+-- c of m, or the m - c others if the flag is set
+unfoldable pub opposite : ℕ → ℕ → ℕ → ℕ
+opposite zero m c = c
+opposite (suc f) m c = m - c
+
+-- an edge with flag f from height H to a node of height h and count c: under a flag the opposite, and 2 ^ (H - h) times over the gap
+unfoldable pub edgeCount : ℕ → ℕ → ℕ → ℕ → ℕ
+edgeCount f h H c = 2 ^ (H - h) * opposite f (2 ^ h) c

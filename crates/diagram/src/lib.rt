@@ -23,8 +23,10 @@ pub struct Edge {
 }
 
 impl Edge {
+    // The plain edge to the sink: every setup is permitted under it.
     pub const ALWAYS: Self = Self { value: 0 };
 
+    // The flagged one: none is.
     pub const NEVER: Self = Self { value: 1 };
 
     pub fn new(node: Node, flagged: bool) -> Self

@@ -4,7 +4,8 @@ use lib.Dec.{lit≤}
 use Rattle.words.specs.Words.{beAt, wordAt, bytesOf}
 use Rattle.diagram.specs.Format.{highField, middleField, lowField, settings, nodes, root, height, thenEdge, elseEdge}
 use Rattle.diagram.specs.Meaning.{bit, branch, flip, holds, plain, under, permitted}
-use Rattle.diagram.specs.Count.{indicator, countBelow, someBelow, place, total, opposite, edgeCount}
+use Rattle.diagram.specs.Count.{indicator, countBelow, someBelow, place, total}
+use Rattle.diagram.specs.Reading.{opposite, edgeCount}
 use Rattle.diagram.specs.Answer.{value, andThen, each}
 use Rattle.diagram.specs.Rules.{misled, checkRecord, names, named, checkNamed, checkHeader, checkRecords, checkNames, checkDiagram, check}
 use Rattle.diagram.proofs.Counts.{total-root}

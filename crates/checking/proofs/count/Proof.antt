@@ -1,7 +1,7 @@
 -- `checking::count` meets its contract: the root edge's count is the total. Assumes nothing.
 use mathlib.Core.Path.{sym, subst}
 use borrow.Author.Needs.{needs}
-use Rattle.checking.specs.Answers.{IsRefused}
+use Rattle.checking.specs.Inner.{IsRefused}
 use Rattle.checking.specs.Operations.{counting}
 use Rattle.checking.proofs.Accepting.{handed-on, table-long, root-room, root-ready, counted}
 use Rattle.checking.proofs.count.Statement.{statement}

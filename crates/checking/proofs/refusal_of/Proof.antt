@@ -1,7 +1,8 @@
 -- `checking::refusal_of` meets its contract. Assumes nothing.
 use mathlib.Core.Path.{ap, subst}
 use borrow.Author.Needs.{needs}
-use Rattle.checking.specs.Answers.{checkedAs, IsRefused}
+use Rattle.checking.specs.Answers.{checkedAs}
+use Rattle.checking.specs.Inner.{IsRefused}
 use Rattle.checking.proofs.refusal_of.Statement.{statement}
 use Rattle.checking.proofs.refusal_of.Tie as tie
 

@@ -1,7 +1,7 @@
 -- `checking::test` meets its contract. Assumes nothing.
 use mathlib.Core.Path.{sym, subst}
 use borrow.Author.Needs.{needs}
-use Rattle.checking.specs.Answers.{IsRefused}
+use Rattle.checking.specs.Inner.{IsRefused}
 use Rattle.checking.specs.Operations.{testing}
 use Rattle.checking.proofs.Accepting.{handed-on, table-long, root-within, too-large, tested}
 use Rattle.checking.proofs.test.Statement.{statement}

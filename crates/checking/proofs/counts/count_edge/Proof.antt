@@ -3,7 +3,7 @@ use Prim.Native.Nat.{ℕ, _/_, _%_, _^_, _≤_}
 use mathlib.Core.Path.{_≡_, sym, ap, subst, _∙_}
 use borrow.Author.Needs.{needs}
 use Rattle.words.specs.Words.{wordAt}
-use Rattle.diagram.specs.Count.{edgeCount}
+use Rattle.diagram.specs.Reading.{edgeCount}
 use Rattle.checking.proofs.Places.{place-below, edge-plain, edge-flagged}
 use Rattle.checking.proofs.counts.count_edge.Statement.{statement}
 use Rattle.checking.proofs.counts.count_edge.Tie as tie
