@@ -25,7 +25,7 @@ use Rattle.checking.specs.declared.Checked.the-variants.{Table}
 use Rattle.checking.specs.declared.Shape.{Shape}
 use Rattle.checking.specs.Answers.{checkedAs}
 use Rattle.checking.specs.Operations.{checking, counting, testing, sheetBy, sheetAfter}
-use Rattle.checking.proofs.Places.{place-le, place-fits}
+use Rattle.counting.proofs.Places.{place-le, place-fits}
 
 module _ (t s out : List ℕ) (a : Checked) (is : (checkedAs a ≡ checking t s) × (out ≡ sheetAfter t s)) where
   -- a refusal of the check is the operation's

@@ -14,10 +14,10 @@ use Rattle.diagram.specs.Rules.{checkHeader, checkRecords, checkNames, checkDia
 use Rattle.diagram.specs.Reading.{IsHeader}
 use Rattle.diagram.proofs.Refusals.{header-refuses, records-refuse, names-refuse}
 use Rattle.diagram.proofs.Accept.{Headed, headed}
-use Rattle.checking.specs.declared.Refusal.{Refusal}
-use Rattle.checking.specs.declared.Verdict.{Verdict}
-use Rattle.checking.specs.declared.Verdict.the-variants.{Passed, Refused}
-use Rattle.checking.specs.Answers.{numberOf, placeOf, verdictAs}
+use Rattle.rules.specs.declared.Refusal.{Refusal}
+use Rattle.rules.specs.declared.Verdict.{Verdict}
+use Rattle.rules.specs.declared.Verdict.the-variants.{Passed, Refused}
+use Rattle.rules.specs.Refusals.{numberOf, placeOf, verdictAs}
 use Rattle.checking.specs.Operations.{checking, sheetBy, sheetAfter}
 
 -- a refusal other than 9 leaves the sheet as it was, and 9 leaves zeros

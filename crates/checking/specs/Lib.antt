@@ -2,4 +2,3 @@
 pub mod Answers
 pub mod Operations
 pub mod Inner
-pub mod Packed

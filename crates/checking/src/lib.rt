@@ -1,87 +1,19 @@
-// Checking, counting and testing. No operation has a `requires`: every table, sheet and setup gets its answer or its refusal.
-mod counts;
-mod naming;
-mod rules;
+// The operations: checking, counting and testing. None has a `requires`: every table, sheet and setup gets its answer or its refusal.
 mod walk;
 
 ghost use mathlib.Core.Path.{_≡_};
-ghost use Prim.Native.Nat.{_+_, _*_, _≤_, _<_, _^_};
+ghost use Prim.Native.Nat.{_+_, _*_, _≤_};
 ghost use lib.ListN.{length};
 ghost use Rattle.words.specs.Words.{wordAt};
 ghost use Rattle.diagram.specs.Answer.{refusal};
 ghost use Rattle.diagram.specs.Rules.{checkDiagram};
-ghost use Rattle.checking.specs.Answers.{numberOf, placeOf, verdictAs, checkedAs, countedAs, testedAs};
-ghost use Rattle.checking.specs.Inner.{IsRefused};
+ghost use Rattle.rules.specs.Refusals.{numberOf, placeOf, verdictAs};
+ghost use Rattle.checking.specs.Answers.{checkedAs, countedAs, testedAs};
 ghost use Rattle.checking.specs.Operations.{checking, counting, testing, sheetBy, sheetAfter};
-use diagram::Node;
+ghost use Rattle.checking.specs.Inner.{IsRefused};
 use diagram::Setup;
-
-// Why an operation is refused, and at which record.
-pub enum Refusal {
-    Length,
-    Nodes,
-    Root,
-    Height(Node),
-    Order(Node),
-    Target(Node),
-    ThenFlag(Node),
-    EqualEdges(Node),
-    Unnamed(Node),
-    Sheet,
-    SetupRange,
-}
-
-// The number of a refusal.
-pub fn number_of(refusal: Refusal) -> u64
-    ensures { λ r. ⌜ (r ≡ numberOf refusal) × (r < 32) ⌝ }
-{
-    match refusal {
-        Refusal::Length => 1,
-        Refusal::Nodes => 2,
-        Refusal::Root => 3,
-        Refusal::Height(_) => 4,
-        Refusal::Order(_) => 5,
-        Refusal::Target(_) => 6,
-        Refusal::ThenFlag(_) => 7,
-        Refusal::EqualEdges(_) => 8,
-        Refusal::Unnamed(_) => 9,
-        Refusal::Sheet => 10,
-        Refusal::SetupRange => 12,
-    }
-}
-
-// The place of a refusal.
-pub fn place_of(refusal: Refusal) -> usize
-    ensures { λ r. ⌜ r ≡ placeOf refusal ⌝ }
-{
-    match refusal {
-        Refusal::Length => 0,
-        Refusal::Nodes => 0,
-        Refusal::Root => 0,
-        Refusal::Height(k) => k.0,
-        Refusal::Order(k) => k.0,
-        Refusal::Target(k) => k.0,
-        Refusal::ThenFlag(k) => k.0,
-        Refusal::EqualEdges(k) => k.0,
-        Refusal::Unnamed(k) => k.0,
-        Refusal::Sheet => 0,
-        Refusal::SetupRange => 0,
-    }
-}
-
-// A refusal as one number: 2^63 + 2^32 × refusal + place.
-pub fn pack_refusal(refusal: Refusal) -> u64
-    requires { ⌜ placeOf refusal ≤ 65535 ⌝ }
-    ensures { λ r. ⌜ r ≡ 2 ^ 63 + 2 ^ 32 * numberOf refusal + placeOf refusal ⌝ }
-{
-    9223372036854775808 + 4294967296 * number_of(refusal) + (place_of(refusal) as u64)
-}
-
-// Some of the rules: they pass, or the first that does not.
-pub enum Verdict {
-    Passed,
-    Refused(Refusal),
-}
+use rules::Refusal;
+use rules::Verdict;
 
 // An accepted table's n and N.
 pub struct Shape {
@@ -114,9 +46,9 @@ fn check_diagram(table: &[u8], sheet: &mut [u8], n: u64, nodes: usize) -> Verdic
     let Verdict::Passed = records else {
         return records;
     };
-    let names = naming::check_names(table, sheet, n, nodes);
+    let names = counting::check_names(table, sheet, n, nodes);
     let Verdict::Passed = names else {
-        counts::blank(sheet, nodes + 1);
+        counting::blank(sheet, nodes + 1);
         return names;
     };
     names
@@ -164,7 +96,7 @@ pub fn count(table: &[u8], sheet: &mut [u8]) -> Counted
     };
     let header = diagram::header_of(table);
     let g = diagram::height_at(table, header.root.node());
-    Counted::Total(counts::count_edge(sheet, header.root, g, header.settings))
+    Counted::Total(counting::count_edge(sheet, header.root, g, header.settings))
 }
 
 // Tests whether a setup is permitted.

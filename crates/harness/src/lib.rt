@@ -3,7 +3,7 @@ ghost use mathlib.Core.Path.{_≡_};
 ghost use Prim.Native.Nat.{ℕ, _+_, _*_, _^_};
 ghost use Rattle.diagram.specs.Count.{indicator};
 ghost use Rattle.checking.specs.Operations.{checking, counting, testing, sheetAfter};
-ghost use Rattle.checking.specs.Packed.{packed};
+ghost use Rattle.rules.specs.Packed.{packed};
 use checking::Checked;
 use checking::Counted;
 use checking::Tested;
@@ -18,7 +18,7 @@ pub extern "C" fn setupbook_check(table: &[u8], sheet: &mut [u8]) -> u64
     let checked = checking::check(table, sheet);
     match checked {
         Checked::Table(shape) => 4294967296 * shape.settings + (shape.nodes as u64),
-        Checked::Refused(r) => checking::pack_refusal(r),
+        Checked::Refused(r) => rules::pack_refusal(r),
     }
 }
 
@@ -31,7 +31,7 @@ pub extern "C" fn setupbook_count(table: &[u8], sheet: &mut [u8]) -> u64
     let counted = checking::count(table, sheet);
     match counted {
         Counted::Total(c) => c,
-        Counted::Refused(r) => checking::pack_refusal(r),
+        Counted::Refused(r) => rules::pack_refusal(r),
     }
 }
 
@@ -44,6 +44,6 @@ pub extern "C" fn setupbook_test(table: &[u8], setup: u64, sheet: &mut [u8]) -> 
     let tested = checking::test(table, Setup(setup), sheet);
     match tested {
         Tested::Permitted(b) => b as u64,
-        Tested::Refused(r) => checking::pack_refusal(r),
+        Tested::Refused(r) => rules::pack_refusal(r),
     }
 }

@@ -1,11 +1,11 @@
 // Runs the paper's samples of checking, counting and testing, and prints a line for each.
 use checking::Checked;
 use checking::Counted;
-use checking::Refusal;
 use checking::Shape;
 use checking::Tested;
 use diagram::Setup;
 use libc::STDOUT_FILENO;
+use rules::Refusal;
 
 // Table A.
 const A: [u64; 4] = [
@@ -26,9 +26,9 @@ fn say_number(n: u64) {
 
 fn say_refusal(r: Refusal) {
     say(b" refused");
-    say_number(checking::number_of(r));
+    say_number(rules::number_of(r));
     say(b" at");
-    say_number(checking::place_of(r) as u64);
+    say_number(rules::place_of(r) as u64);
 }
 
 // Places 0 to N of the sheet, which has four.

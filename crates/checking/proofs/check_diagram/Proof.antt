@@ -1,7 +1,7 @@
 -- `checking::check_diagram` meets its contract: the records, then their names, and the sheet as each leaves it. Assumes nothing.
 use mathlib.Core.Path.{sym, ap, _∙_}
 use borrow.Author.Needs.{needs}
-use Rattle.checking.specs.Answers.{verdictAs}
+use Rattle.rules.specs.Refusals.{verdictAs}
 use Rattle.diagram.proofs.Accept.{records-reduced}
 use Rattle.checking.proofs.Compose.{records-refused, names-refused, names-passed}
 use Rattle.checking.proofs.check_diagram.Statement.{statement}

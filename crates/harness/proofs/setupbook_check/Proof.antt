@@ -3,7 +3,7 @@ use mathlib.Core.Path.{sym, ap, _∙_}
 use borrow.Author.Needs.{needs}
 use native.Mathlib.Omega.{arith}
 use Rattle.checking.specs.Answers.{checkedAs}
-use Rattle.checking.specs.Packed.{packed}
+use Rattle.rules.specs.Packed.{packed}
 use Rattle.checking.proofs.Bounds.{checking-place, shape-fits}
 use Rattle.harness.proofs.setupbook_check.Statement.{statement}
 use Rattle.harness.proofs.setupbook_check.Tie as tie

@@ -2,7 +2,7 @@
 use mathlib.Core.Path.{sym, ap, _∙_}
 use borrow.Author.Needs.{needs}
 use Rattle.checking.specs.Answers.{countedAs}
-use Rattle.checking.specs.Packed.{packed}
+use Rattle.rules.specs.Packed.{packed}
 use Rattle.checking.proofs.Bounds.{counting-place}
 use Rattle.harness.proofs.setupbook_count.Statement.{statement}
 use Rattle.harness.proofs.setupbook_count.Tie as tie

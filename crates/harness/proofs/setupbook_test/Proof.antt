@@ -5,7 +5,7 @@ use mir.Val.{boolByte}
 use borrow.Author.Needs.{needs}
 use Rattle.diagram.specs.Count.{indicator}
 use Rattle.checking.specs.Answers.{testedAs}
-use Rattle.checking.specs.Packed.{packed}
+use Rattle.rules.specs.Packed.{packed}
 use Rattle.checking.proofs.Bounds.{testing-place}
 use Rattle.harness.proofs.setupbook_test.Statement.{statement}
 use Rattle.harness.proofs.setupbook_test.Tie as tie

@@ -1,0 +1,5 @@
+-- The laws of counting and marking, in the terms of the code.
+pub mod Places
+pub mod Nodes
+pub mod Filling
+pub mod Marks

@@ -1,0 +1,31 @@
+-- What the functions that fill the sheet know of it and of the marks of rule 9: for inner contracts only. Assumes nothing.
+use Prim.Native.Nat.{ℕ, suc, _+_, _-_, _*_, _<_, _≤_}
+use mathlib.Core.Path.{_≡_}
+use mathlib.Core.Bool.{cond}
+use mathlib.Core.List.{List}
+use lib.Dec.{eqb}
+use lib.ListN.{length, getD}
+use Rattle.words.specs.Words.{wordAt}
+use Rattle.diagram.specs.Format.{Words}
+use Rattle.diagram.specs.Count.{indicator, place}
+use Rattle.diagram.specs.Answer.{Answer, refusal, pass, each}
+use Rattle.diagram.specs.Rules.{named}
+use Rattle.diagram.specs.Reading.{Within}
+
+-- the first m places of a sheet hold the counts of nodes 0 to m - 1
+abbrev pub HoldsPlaces : Words → ℕ → Words → Type 0
+HoldsPlaces sheet m w = (k : ℕ) → k < m → sheet k ≡ place w k
+
+-- node k lies in the table, it has a place in the sheet, and the places of the nodes below it are filled
+pub record Ready (table sheet : List ℕ) (k : ℕ) : Type 0 where
+  pub within : Within table k
+  pub room : 8 * k + 8 ≤ length sheet
+  pub places : HoldsPlaces (wordAt sheet) k (wordAt table)
+
+-- a mark for each node that some record of 1 to m names
+abbrev pub Marked : List ℕ → ℕ → Words → Type 0
+Marked marks m w = (k : ℕ) → k < length marks → getD marks k 0 ≡ indicator (named w m k)
+
+-- rule 9 by the marks: the lowest node from 1 to N - 1 that has none
+unfoldable pub checkMarks : List ℕ → ℕ → Answer (Unit {0})
+checkMarks marks N = each (λ k. cond (eqb (getD marks (suc k) 0) 0) (refusal 9 (suc k)) pass) (N - 1)

@@ -1,0 +1,2 @@
+-- What is known while the sheet is filled.
+pub mod Inner

@@ -1,0 +1,3 @@
+-- The laws of the rules, in the terms of the code.
+pub mod Turns
+pub mod Records

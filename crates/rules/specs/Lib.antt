@@ -1,0 +1,4 @@
+-- Refusals, and the packed form of an answer.
+pub mod Refusals
+pub mod Packed
+pub mod Inner

@@ -1,0 +1,40 @@
+-- The number and the place of each refusal. Assumes nothing.
+use Prim.Native.Nat.{ℕ}
+use Rattle.diagram.specs.Answer.{Answer, refusal, pass}
+use Rattle.rules.specs.declared.Refusal.{Refusal}
+use Rattle.rules.specs.declared.Refusal.the-variants.{Length, Nodes, Root, Height, Order, Target, ThenFlag, EqualEdges, Unnamed, Sheet, SetupRange}
+use Rattle.rules.specs.declared.Verdict.{Verdict}
+use Rattle.rules.specs.declared.Verdict.the-variants.{Passed, Refused}
+
+-- the number of a refusal
+abbrev pub numberOf : Refusal → ℕ
+numberOf Length = 1
+numberOf Nodes = 2
+numberOf Root = 3
+numberOf (Height k) = 4
+numberOf (Order k) = 5
+numberOf (Target k) = 6
+numberOf (ThenFlag k) = 7
+numberOf (EqualEdges k) = 8
+numberOf (Unnamed k) = 9
+numberOf Sheet = 10
+numberOf SetupRange = 12
+
+-- its place: the record for 4 to 9, otherwise 0
+abbrev pub placeOf : Refusal → ℕ
+placeOf Length = 0
+placeOf Nodes = 0
+placeOf Root = 0
+placeOf (Height k) = k .0
+placeOf (Order k) = k .0
+placeOf (Target k) = k .0
+placeOf (ThenFlag k) = k .0
+placeOf (EqualEdges k) = k .0
+placeOf (Unnamed k) = k .0
+placeOf Sheet = 0
+placeOf SetupRange = 0
+
+-- some rules pass, or the first that does not
+abbrev pub verdictAs : Verdict → Answer (Unit {0})
+verdictAs Passed = pass
+verdictAs (Refused r) = refusal (numberOf r) (placeOf r)

@@ -1,0 +1,178 @@
+// Refusals, and the rules of the header and of single records: 1 to 8, and 10.
+ghost use mathlib.Core.Path.{_≡_};
+ghost use mathlib.Core.Bool.{_||_};
+ghost use Prim.Native.Nat.{_+_, _*_, _≤_, _<_, _^_};
+ghost use lib.ListN.{length};
+ghost use Rattle.words.specs.Words.{wordAt};
+ghost use Rattle.diagram.specs.Format.{height};
+ghost use Rattle.diagram.specs.Rules.{misled, checkRecord, checkHeader, checkRecords};
+ghost use Rattle.rules.specs.Refusals.{numberOf, placeOf, verdictAs};
+ghost use Rattle.rules.specs.Inner.{previous};
+use diagram::Edge;
+use diagram::Node;
+use diagram::Record;
+
+// Why an operation is refused, and at which record.
+pub enum Refusal {
+    Length,
+    Nodes,
+    Root,
+    Height(Node),
+    Order(Node),
+    Target(Node),
+    ThenFlag(Node),
+    EqualEdges(Node),
+    Unnamed(Node),
+    Sheet,
+    SetupRange,
+}
+
+// The number of a refusal.
+pub fn number_of(refusal: Refusal) -> u64
+    ensures { λ r. ⌜ (r ≡ numberOf refusal) × (r < 32) ⌝ }
+{
+    match refusal {
+        Refusal::Length => 1,
+        Refusal::Nodes => 2,
+        Refusal::Root => 3,
+        Refusal::Height(_) => 4,
+        Refusal::Order(_) => 5,
+        Refusal::Target(_) => 6,
+        Refusal::ThenFlag(_) => 7,
+        Refusal::EqualEdges(_) => 8,
+        Refusal::Unnamed(_) => 9,
+        Refusal::Sheet => 10,
+        Refusal::SetupRange => 12,
+    }
+}
+
+// The place of a refusal.
+pub fn place_of(refusal: Refusal) -> usize
+    ensures { λ r. ⌜ r ≡ placeOf refusal ⌝ }
+{
+    match refusal {
+        Refusal::Length => 0,
+        Refusal::Nodes => 0,
+        Refusal::Root => 0,
+        Refusal::Height(k) => k.0,
+        Refusal::Order(k) => k.0,
+        Refusal::Target(k) => k.0,
+        Refusal::ThenFlag(k) => k.0,
+        Refusal::EqualEdges(k) => k.0,
+        Refusal::Unnamed(k) => k.0,
+        Refusal::Sheet => 0,
+        Refusal::SetupRange => 0,
+    }
+}
+
+// A refusal as one number: 2^63 + 2^32 × refusal + place.
+pub fn pack_refusal(refusal: Refusal) -> u64
+    requires { ⌜ placeOf refusal ≤ 65535 ⌝ }
+    ensures { λ r. ⌜ r ≡ 2 ^ 63 + 2 ^ 32 * numberOf refusal + placeOf refusal ⌝ }
+{
+    9223372036854775808 + 4294967296 * number_of(refusal) + (place_of(refusal) as u64)
+}
+
+// Some of the rules: they pass, or the first that does not.
+pub enum Verdict {
+    Passed,
+    Refused(Refusal),
+}
+
+// Rules 1 to 3, and 10 where the sheet has `places` places and each × N + more are needed.
+pub fn check_header(table: &[u8], places: usize, each: usize, more: usize) -> Verdict
+    requires { ⌜ (each ≤ 64) × (more ≤ 512) ⌝ }
+    ensures { λ r. ⌜ verdictAs r ≡ checkHeader (now (table .entry)) places (λ N. each * N + more) ⌝ }
+{
+    if table.len() < 8 {
+        return Verdict::Refused(Refusal::Length);
+    }
+    let header = diagram::header_of(table);
+    let nodes = header.nodes;
+    if 65535 < nodes {
+        return Verdict::Refused(Refusal::Nodes);
+    }
+    if table.len() != 8 * (nodes + 1) {
+        return Verdict::Refused(Refusal::Length);
+    }
+    if header.root.node().0 != nodes {
+        return Verdict::Refused(Refusal::Root);
+    }
+    if places < each * nodes + more {
+        return Verdict::Refused(Refusal::Sheet);
+    }
+    Verdict::Passed
+}
+
+// Whether edge e of record k, of height h, leads to a node not below k or to one not below h.
+fn is_misled(table: &[u8], k: usize, h: u64, e: Edge) -> bool
+    requires { ⌜ (h ≡ height (wordAt (now table)) k) × (8 * k + 8 ≤ length (now table)) ⌝ }
+    ensures { λ r. ⌜ r ≡ misled (wordAt (now (table .entry))) k (e .value) ⌝ }
+{
+    let node = e.node();
+    if k <= node.0 {
+        return true;
+    }
+    h <= diagram::height_at(table, node)
+}
+
+// Whether one of the edges of record k does.
+fn has_misled(table: &[u8], k: usize, fields: Record) -> bool
+    requires { ⌜ (fields .height ≡ height (wordAt (now table)) k) × (8 * k + 8 ≤ length (now table)) ⌝ }
+    ensures { λ r. ⌜ r ≡ (misled (wordAt (now (table .entry))) k (fields .high .value) || misled (wordAt (now (table .entry))) k (fields .low .value)) ⌝ }
+{
+    if is_misled(table, k, fields.height, fields.high) {
+        return true;
+    }
+    is_misled(table, k, fields.height, fields.low)
+}
+
+// Rules 4 to 8, of record k, which is `word` and comes after `before`.
+fn check_record(table: &[u8], n: u64, k: usize, word: u64, before: u64) -> Verdict
+    requires { ⌜ (0 < k) × (8 * k + 8 ≤ length (now table)) × (word ≡ wordAt (now table) k) × (before ≡ previous (wordAt (now table)) k) ⌝ }
+    ensures { λ r. ⌜ verdictAs r ≡ checkRecord (wordAt (now (table .entry))) n k ⌝ }
+{
+    let record = Record::of(word);
+    let h = record.height;
+    if h == 0 {
+        return Verdict::Refused(Refusal::Height(Node(k)));
+    }
+    if n < h {
+        return Verdict::Refused(Refusal::Height(Node(k)));
+    }
+    let falls = word <= before;
+    let misled = has_misled(table, k, record);
+    if falls {
+        return Verdict::Refused(Refusal::Order(Node(k)));
+    }
+    if misled {
+        return Verdict::Refused(Refusal::Target(Node(k)));
+    }
+    if record.high.flagged() {
+        return Verdict::Refused(Refusal::ThenFlag(Node(k)));
+    }
+    if record.high.value == record.low.value {
+        return Verdict::Refused(Refusal::EqualEdges(Node(k)));
+    }
+    Verdict::Passed
+}
+
+// Rules 4 to 8, of records 1 to N upward.
+pub fn check_records(table: &[u8], n: u64, nodes: usize) -> Verdict
+    requires { ⌜ 8 * nodes + 8 ≤ length (now table) ⌝ }
+    ensures { λ r. ⌜ verdictAs r ≡ checkRecords (wordAt (now (table .entry))) n nodes ⌝ }
+{
+    let mut before = 0;
+    let mut word = diagram::word_after(table, 0, nodes);
+    let mut k = 0;
+    while k < nodes {
+        k += 1;
+        let verdict = check_record(table, n, k, word, before);
+        let Verdict::Passed = verdict else {
+            return verdict;
+        };
+        before = word;
+        word = diagram::word_after(table, k, nodes);
+    }
+    Verdict::Passed
+}
