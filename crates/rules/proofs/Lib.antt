@@ -1,3 +1,4 @@
 -- The laws of the rules, in the terms of the code.
-pub mod Turns
+pub mod Headers
 pub mod Records
+pub mod Turns

@@ -1,7 +1,6 @@
 -- A run of checks, turn by turn, in the terms of the code. Assumes nothing.
-use Prim.Native.Nat.{ℕ, _+_, _*_, _≤_, _<_}
+use Prim.Native.Nat.{ℕ, _+_, _<_}
 use mathlib.Core.Path.{_≡_, sym, ap, _∙_}
-use native.Mathlib.Nat.{mul-le-mul-left, mul-le-mul-right, le-trans}
 use native.Mathlib.Numerals.{add-one}
 use Rattle.diagram.specs.Answer.{Answer, pass, each}
 use Rattle.diagram.proofs.AnswerLaws.{each-next, each-refused}
@@ -9,10 +8,6 @@ use Rattle.rules.specs.declared.Refusal.{Refusal}
 use Rattle.rules.specs.declared.Verdict.{Verdict}
 use Rattle.rules.specs.declared.Verdict.the-variants.{Passed, Refused}
 use Rattle.rules.specs.Refusals.{numberOf, placeOf, verdictAs}
-
--- the places that are needed, counted in 64 bits
-pub need-fits : (each N : ℕ) → each ≤ 64 → N ≤ 65535 → each * N ≤ 4194240
-need-fits each N p q = le-trans (mul-le-mul-right N p) (mul-le-mul-left 64 q)
 
 -- a turn of a run of checks, whose verdict v is that of check k
 module _ (f : ℕ → Answer (Unit {0})) (k : ℕ) (v : Verdict) (before : each f k ≡ pass) (is : verdictAs v ≡ f k) where
