@@ -19,15 +19,6 @@ pub height-sink : (w : Words) (k : ℕ) → k ≡ 0 → height w k ≡ 0
 unfolding height
 height-sink w k e = rw e
 
-pub header-is : (w : Words) (v : ℕ) → v ≡ w 0 → v < 18446744073709551616 → IsHeader w (v / 288230376151711744) (v / 536870912 % 536870912) (v % 536870912)
-unfolding settings nodes root highField middleField lowField
-header-is w v e l = record {
-  settings-is = ap (λ (u : ℕ). u / 288230376151711744) e;
-  nodes-is = ap (λ (u : ℕ). u / 536870912 % 536870912) e;
-  root-is = ap (λ (u : ℕ). u % 536870912) e;
-  few-settings = omega arith;
-}
-
 pub fields-are : (v : ℕ) → v < 18446744073709551616 → HasFields v (v / 288230376151711744) (v / 536870912 % 536870912) (v % 536870912)
 unfolding highField middleField lowField
 fields-are v l = record {
@@ -35,11 +26,18 @@ fields-are v l = record {
   middle-is = refl;
   low-is = refl;
   high-fits = omega arith;
-  middle-fits = omega arith;
-  low-fits = omega arith;
 }
 
--- a record is the fields of its word
+-- a header, and a record, is the fields of its word
+pub fields-header : (w : Words) (v n N e : ℕ) → v ≡ w 0 → HasFields v n N e → IsHeader w n N e
+unfolding settings nodes root
+fields-header w v n N e q f = record {
+  settings-is = f .high-is ∙ ap highField q;
+  nodes-is = f .middle-is ∙ ap middleField q;
+  root-is = f .low-is ∙ ap lowField q;
+  few-settings = f .high-fits;
+}
+
 pub fields-record : (w : Words) (k v h t e : ℕ) → 0 < k → v ≡ w k → HasFields v h t e → IsRecord w k h t e
 unfolding thenEdge elseEdge
 fields-record w k v h t e p q f = record {
@@ -47,8 +45,6 @@ fields-record w k v h t e p q f = record {
   then-is = f .middle-is ∙ ap middleField q;
   else-is = f .low-is ∙ ap lowField q;
   low = f .high-fits;
-  then-fits = f .middle-fits;
-  else-fits = f .low-fits;
 }
 
 -- the top six bits of a word are those of its first byte

@@ -1,5 +1,5 @@
 -- What the functions that read and count a table answer, and what they need: for inner contracts only. Assumes nothing.
-use Prim.Native.Nat.{ℕ, zero, suc, _-_, _*_, _^_, _≤_, _<_}
+use Prim.Native.Nat.{ℕ, zero, suc, _-_, _*_, _^_, _≤_}
 use mathlib.Core.Path.{_≡_}
 use mathlib.Core.List.{List}
 use Rattle.diagram.specs.Format.{Words, highField, middleField, lowField, settings, nodes, root, height, thenEdge, elseEdge}
@@ -11,8 +11,6 @@ pub record HasFields (v h t e : ℕ) : Type 0 where
   pub middle-is : t ≡ middleField v
   pub low-is : e ≡ lowField v
   pub high-fits : h ≤ 63
-  pub middle-fits : t < 536870912
-  pub low-fits : e < 536870912
 
 -- the header's fields
 pub record IsHeader (w : Words) (n N e : ℕ) : Type 0 where
@@ -27,8 +25,6 @@ pub record IsRecord (w : Words) (k h t e : ℕ) : Type 0 where
   pub then-is : t ≡ thenEdge w k
   pub else-is : e ≡ elseEdge w k
   pub low : h ≤ 63
-  pub then-fits : t < 536870912
-  pub else-fits : e < 536870912
 
 -- node k lies in an ordered diagram that the bytes hold
 pub record Within (bytes : List ℕ) (k : ℕ) : Type 0 where

@@ -83,17 +83,17 @@ impl Record {
     }
 }
 
+// The header has the fields of a record: n, N and the root edge.
 pub fn header_of(table: &[u8]) -> Header
     requires { ⌜ 8 ≤ length (now table) ⌝ }
     ensures { λ r. ⌜ IsHeader (wordAt (now (table .entry))) (r .settings) (r .nodes) (r .root .value) ⌝ }
 {
-    let word = words::word_at(table, 0);
+    let fields = Record::of(words::word_at(table, 0));
+    let root = fields.low;
     Header {
-        settings: word / 288230376151711744,
-        nodes: (word / 536870912 % 536870912) as usize,
-        root: Edge {
-            value: word % 536870912,
-        },
+        settings: fields.height,
+        nodes: fields.high.value as usize,
+        root,
     }
 }
 
