@@ -1,13 +1,10 @@
 -- An operation after the check: its refusal is handed on, and otherwise the table is accepted and the sheet holds the counts. Assumes nothing.
 use Prim.Native.Nat.{ℕ, _+_, _*_, _/_, _%_, _^_, _≤_, _<_}
 use mathlib.Core.Path.{_≡_, sym, ap, subst, _∙_}
-use mathlib.Core.Bool.{Bool, cond}
+use mathlib.Core.Bool.{Bool}
 use mathlib.Core.List.{List}
 use native.Mathlib.Omega.{arith}
-use native.Mathlib.Nat.{one-mul, mod-eq-of-lt}
-use lib.Dec.{leb}
 use lib.ListN.{length}
-use lib.Pow.{pow-lt}
 use borrow.Author.Tests.{le-leb, lt-leb}
 use Rattle.words.specs.Words.{wordAt, wordsOver}
 use Rattle.words.proofs.Laws.{words-read, length-wordsOver}
@@ -24,8 +21,8 @@ use Rattle.checking.specs.declared.Checked.{Checked}
 use Rattle.checking.specs.declared.Checked.the-variants.{Table}
 use Rattle.checking.specs.declared.Shape.{Shape}
 use Rattle.checking.specs.Answers.{checkedAs}
-use Rattle.checking.specs.Operations.{checking, counting, testing, sheetBy, sheetAfter}
-use Rattle.counting.proofs.Places.{place-le, place-fits}
+use Rattle.checking.specs.Operations.{checking, counting, testSetup, testing, sheetBy, sheetAfter}
+use Rattle.counting.proofs.Places.{one-shl, place-fits, Countable, countable}
 
 module _ (t s out : List ℕ) (a : Checked) (is : (checkedAs a ≡ checking t s) × (out ≡ sheetAfter t s)) where
   -- a refusal of the check is the operation's
@@ -96,8 +93,9 @@ module _ (t s out : List ℕ) (a : Checked) (is : (checkedAs a ≡ checking t s)
         root-place : wordAt out (e / 2) ≡ place w (e / 2)
         root-place = ap (λ (x : List ℕ). wordAt x (e / 2)) filled ∙ words-read (place w) (N + 1) s (e / 2) (omega (arith, root-inside)) (place-fits w (e / 2) (omega (arith, low, h .few-settings)))
 
-        pub root-ready : (8 * (e / 2) + 8 ≤ length out) × (wordAt out (e / 2) ≤ 2 ^ g) × (g ≤ n) × (n ≤ 63)
-        root-ready = (omega (arith, ap length filled, length-wordsOver (place w) (N + 1) s m, m, root-inside), rw (root-place, g-root) (place-le w (e / 2)), omega (arith, g-root, low), h .few-settings)
+        pub root-ready : Countable out e g n
+        root-ready =
+            countable w out e g n (omega (arith, ap length filled, length-wordsOver (place w) (N + 1) s m, m, root-inside)) root-place g-root (omega (arith, g-root, low)) (h .few-settings)
 
         -- counting
         pub counted : (c : ℕ) → c ≡ edgeCount (e % 2) g n (wordAt out (e / 2)) → value c ≡ counting t s
@@ -107,13 +105,10 @@ module _ (t s out : List ℕ) (a : Checked) (is : (checkedAs a ≡ checking t s)
             sym (going-on (λ _. value (total w)) ∙ ap value (total-root w n N (table-holds .ordered) r (sym (h .settings-is)) ∙ rw (← h .root-is, ← g-root, ← root-place) (sym q′)))
 
       -- testing
-      power : 1 * 2 ^ n % 18446744073709551616 ≡ 2 ^ n
-      power = let l = h .few-settings in rw one-mul (mod-eq-of-lt (pow-lt {i = n} {j = 64} (omega arith)))
-
       pub too-large : (x : ℕ) → 1 * 2 ^ n % 18446744073709551616 ≤ x → refusal 12 0 ≡ testing t x s
-      unfolding testing
-      too-large x l = sym (going-on (λ _. cond (leb (2 ^ settings w) x) (refusal 12 0) (value (permitted w x))) ∙ rw (← h .settings-is, le-leb (2 ^ n) x (rw power at l)))
+      unfolding testing testSetup
+      too-large x l = sym (going-on (λ _. testSetup w x) ∙ rw (← h .settings-is, le-leb (2 ^ n) x (rw (one-shl n (h .few-settings)) at l)))
 
       pub tested : (x : ℕ) (b : Bool) → x < 1 * 2 ^ n % 18446744073709551616 → b ≡ under w e x → value b ≡ testing t x s
-      unfolding testing permitted
-      tested x b l q′ = sym (going-on (λ _. cond (leb (2 ^ settings w) x) (refusal 12 0) (value (permitted w x))) ∙ rw (← h .settings-is, lt-leb (2 ^ n) x (rw power at l), ← h .root-is, q′))
+      unfolding testing testSetup permitted
+      tested x b l q′ = sym (going-on (λ _. testSetup w x) ∙ rw (← h .settings-is, lt-leb (2 ^ n) x (rw (one-shl n (h .few-settings)) at l), ← h .root-is, q′))

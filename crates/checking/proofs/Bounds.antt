@@ -13,7 +13,7 @@ use Rattle.diagram.specs.Count.{total}
 use Rattle.diagram.specs.Answer.{value}
 use Rattle.diagram.proofs.Accept.{check-accepted}
 use Rattle.diagram.proofs.Refusals.{Refuses, passes, unless, then-refuses, check-place}
-use Rattle.checking.specs.Operations.{checking, counting, testing}
+use Rattle.checking.specs.Operations.{checking, counting, testSetup, testing}
 
 abbrev pub Low : ℕ → ℕ → Type 0
 Low number place = place ≤ 65535
@@ -27,7 +27,7 @@ unfolding counting
 counting-place t s = then-refuses Low (checking t s) _ (checking-place t s) (λ _ _. passes Low (total (wordAt t)))
 
 pub testing-place : (t : List ℕ) (x : ℕ) (s : List ℕ) → Refuses Low (testing t x s)
-unfolding testing
+unfolding testing testSetup
 testing-place t x s =
     then-refuses Low (checking t s) _ (checking-place t s)
     (λ _ _. unless Low (leb (2 ^ settings (wordAt t)) x) 12 0 (omega arith) (passes Low (permitted (wordAt t) x)))

@@ -20,7 +20,7 @@ use Rattle.rules.specs.declared.Verdict.the-variants.{Passed, Refused}
 use Rattle.rules.specs.Refusals.{numberOf, placeOf, verdictAs}
 use Rattle.checking.specs.Operations.{checking, sheetBy, sheetAfter}
 
--- a refusal other than 9 leaves the sheet as it was, and 9 leaves zeros
+-- a refusal other than 9 leaves the sheet as it was
 sheet-kept : {A : Type 0} (w : Words) (N : ℕ) (a : Answer A) (number k : ℕ) (s : List ℕ) → (number ≡ 9 → ⊥) → a ≡ refusal number k → s ≡ sheetBy w N a s
 unfolding sheetBy
 sheet-kept w N a number k s h e = rw e (rw (ne-eqb number 9 h))

@@ -10,7 +10,7 @@ use Rattle.words.specs.Words.{wordAt}
 use Rattle.diagram.specs.Format.{Words, height}
 use Rattle.diagram.specs.Meaning.{bit, branch, flip, holds, plain, under}
 use Rattle.diagram.specs.Reading.{IsRecord, Within}
-use Rattle.diagram.proofs.Paths.{Lower, tall-node, branch-lower, plain-branch}
+use Rattle.diagram.proofs.Paths.{Lower, branch-lower, plain-branch}
 
 -- the sink permits every setup
 pub plain-sink : (w : Words) (k x : ℕ) → k ≡ 0 → plain w k x ≡ true
@@ -39,9 +39,6 @@ module _ (w : Words) (k x h a b : ℕ) (r : IsRecord w k h a b) where
   pub branch-low : (x / 2 ^ (h - 1) % 2 ≡ 1 → ⊥) → b ≡ branch w k x
   unfolding branch bit
   branch-low q = rw (← r .height-is, ne-eqb (x / 2 ^ (h - 1) % 2) 1 q) (r .else-is)
-
-pub within-tall : (t : List ℕ) (k h a b : ℕ) → 0 < k → Within t k → IsRecord (wordAt t) k h a b → 0 < h
-within-tall t k h a b p W r = rw (r .height-is) (tall-node (wordAt t) (W .settings) (W .nodes) (W .holds .ordered) k p (W .inside))
 
 -- node k is left by edge e, to node v: the height falls, and the answer is that of e
 module _ (t : List ℕ) (k x e v : ℕ) (W : Within t k) (some : k ≡ 0 → ⊥) (e-is : e ≡ branch (wordAt t) k x) (v-is : v ≡ e / 2) where

@@ -19,11 +19,13 @@ checking table sheet = check table (length sheet / 8) (λ N. N + 1)
 unfoldable pub counting : List ℕ → List ℕ → Answer ℕ
 counting table sheet = andThen (checking table sheet) (λ _. value (total (wordAt table)))
 
--- testing: whether setup x is permitted. Rule 12 after the table's own
+-- rule 12, and whether a table permits setup x
+unfoldable pub testSetup : Words → ℕ → Answer Bool
+testSetup w x = cond (leb (2 ^ settings w) x) (refusal 12 0) (value (permitted w x))
+
+-- testing: whether setup x is permitted, after the table's own refusals
 unfoldable pub testing : List ℕ → ℕ → List ℕ → Answer Bool
-testing table x sheet =
-    andThen (checking table sheet) λ _.
-    cond (leb (2 ^ settings (wordAt table)) x) (refusal 12 0) (value (permitted (wordAt table) x))
+testing table x sheet = andThen (checking table sheet) (λ _. testSetup (wordAt table) x)
 
 -- the sheet after an answer of the check, of N nodes: the counts; or zeros, after 9; or untouched. Past place N, and in spare bytes, it is always as before
 unfoldable pub sheetBy : {A : Type 0} → Words → ℕ → Answer A → List ℕ → List ℕ

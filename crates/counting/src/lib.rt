@@ -64,7 +64,7 @@ fn enter_node(table: &[u8], sheet: &mut [u8], marks: &mut [u8], k: usize, word: 
 }
 
 // Fills places 0 to N with the counts, and marks the nodes that a record names.
-pub fn count_nodes(table: &[u8], sheet: &mut [u8], marks: &mut [u8], n: u64, nodes: usize)
+fn count_nodes(table: &[u8], sheet: &mut [u8], marks: &mut [u8], n: u64, nodes: usize)
     requires { ⌜ HasDiagram (now table) n nodes × (8 * nodes + 8 ≤ length (now sheet)) × (nodes < length (now marks)) × Marked (now marks) 0 (wordAt (now table)) ⌝ }
     ensures { λ _. ⌜ (now (sheet .exit) ≡ wordsOver (place (wordAt (now (table .entry)))) (nodes + 1) (now (sheet .entry)))
         × (length (now (marks .exit)) ≡ length (now (marks .entry))) × Marked (now (marks .exit)) nodes (wordAt (now (table .entry))) ⌝ }

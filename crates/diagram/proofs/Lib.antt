@@ -10,3 +10,4 @@ pub mod AnswerLaws
 pub mod Accept
 pub mod Fields
 pub mod Refusals
+pub mod Inside

@@ -3,42 +3,31 @@ use mathlib.Core.Path.{ap, _∙_}
 use borrow.Author.Needs.{needs}
 use Rattle.words.specs.Words.{wordAt}
 use Rattle.diagram.specs.Format.{height}
-use Rattle.counting.proofs.Nodes.{node-tall, high-room, low-room, ready-high, ready-low, place-sum}
+use Rattle.diagram.proofs.Inside.{inside-tall, high-lower, low-lower, lower-room}
+use Rattle.counting.proofs.Nodes.{ready-high, ready-low, place-sum}
 use Rattle.counting.proofs.count_node.Statement.{statement}
 use Rattle.counting.proofs.count_node.Tie as tie
 
 height-at-requires : tie.Need-height-at-requires
-height-at-requires c κs = let p = c .before .before .before .pre in rw (c .node .ensures) (high-room _ _ _ _ _ _ (p .0) (p .1) (p .2))
+height-at-requires c κs = let a = c .before .before .before in rw (c .node .ensures) (lower-room _ _ _ _ _ (a .pre .0) (a .pre .1 .within) (a .pre .2) _ (high-lower _ _ _ _ _ (a .pre .0) (a .pre .1 .within) (a .pre .2)))
 
 height-at-requires-2 : tie.Need-height-at-requires-2
-height-at-requires-2 c κs = let p = c .before .before .before .before .before .pre in rw (c .node2 .ensures) (low-room _ _ _ _ _ _ (p .0) (p .1) (p .2))
+height-at-requires-2 c κs = let a = c .before .before .before .before .before in rw (c .node2 .ensures) (lower-room _ _ _ _ _ (a .pre .0) (a .pre .1 .within) (a .pre .2) _ (low-lower _ _ _ _ _ (a .pre .0) (a .pre .1 .within) (a .pre .2)))
 
 sub-h : tie.Need-sub-h
-sub-h c = let p = c .before .before .before .before .before .before .before .pre in node-tall _ _ _ _ _ _ (p .0) (p .1) (p .2)
+sub-h c = let a = c .before .before .before .before .before .before .before in inside-tall _ _ _ _ _ (a .pre .0) (a .pre .1 .within) (a .pre .2)
 
 count-edge-requires : tie.Need-count-edge-requires
-count-edge-requires c κs =
-    let p = c .before .before .before .before .before .before .before .pre in
-    let t = c .before .before .before .before .before .before .before .args .table in
-    ready-high _ _ _ _ _ _ (p .0) (p .1) (p .2) _ _ (c .before .before .before .height-at .ensures .0 ∙ ap (height (wordAt (t .now))) (c .before .before .before .before .node .ensures)) (c .before .height-at2 .ensures .0 ∙ ap (height (wordAt (t .now))) (c .before .before .node2 .ensures))
+count-edge-requires c κs = let a = c .before .before .before .before .before .before .before in ready-high _ _ _ _ _ _ (a .pre .0) (a .pre .1) (a .pre .2) _ _ (c .before .before .before .height-at .ensures .0 ∙ ap (height (wordAt (a .args .table .now))) (c .before .before .before .before .node .ensures)) (c .before .height-at2 .ensures .0 ∙ ap (height (wordAt (a .args .table .now))) (c .before .before .node2 .ensures))
 
 count-edge-requires-2 : tie.Need-count-edge-requires-2
-count-edge-requires-2 c κs =
-    let p = c .before .before .before .before .before .before .before .before .pre in
-    let t = c .before .before .before .before .before .before .before .before .args .table in
-    ready-low _ _ _ _ _ _ (p .0) (p .1) (p .2) _ _ (c .before .before .before .before .height-at .ensures .0 ∙ ap (height (wordAt (t .now))) (c .before .before .before .before .before .node .ensures)) (c .before .before .height-at2 .ensures .0 ∙ ap (height (wordAt (t .now))) (c .before .before .before .node2 .ensures))
+count-edge-requires-2 c κs = let a = c .before .before .before .before .before .before .before .before in ready-low _ _ _ _ _ _ (a .pre .0) (a .pre .1) (a .pre .2) _ _ (c .before .before .before .before .height-at .ensures .0 ∙ ap (height (wordAt (a .args .table .now))) (c .before .before .before .before .before .node .ensures)) (c .before .before .height-at2 .ensures .0 ∙ ap (height (wordAt (a .args .table .now))) (c .before .before .before .node2 .ensures))
 
 add-result : tie.Need-add-result
-add-result c =
-    let p = c .before .before .before .before .before .before .before .before .before .pre in
-    let t = c .before .before .before .before .before .before .before .before .before .args .table in
-    record { fits = place-sum _ _ _ _ _ _ (p .0) (p .1) (p .2) _ _ (c .before .before .before .before .before .height-at .ensures .0 ∙ ap (height (wordAt (t .now))) (c .before .before .before .before .before .before .node .ensures)) (c .before .before .before .height-at2 .ensures .0 ∙ ap (height (wordAt (t .now))) (c .before .before .before .before .node2 .ensures)) _ _ (c .before .count-edge .ensures) (c .count-edge2 .ensures) .1 }
+add-result c = let a = c .before .before .before .before .before .before .before .before .before in record { fits = place-sum _ _ _ _ _ _ (a .pre .0) (a .pre .1) (a .pre .2) _ _ (c .before .before .before .before .before .height-at .ensures .0 ∙ ap (height (wordAt (a .args .table .now))) (c .before .before .before .before .before .before .node .ensures)) (c .before .before .before .height-at2 .ensures .0 ∙ ap (height (wordAt (a .args .table .now))) (c .before .before .before .before .node2 .ensures)) _ _ (c .before .count-edge .ensures) (c .count-edge2 .ensures) .1 }
 
 returns : tie.Need-returns
-returns c =
-    let p = c .before .before .before .before .before .before .before .before .before .pre in
-    let t = c .before .before .before .before .before .before .before .before .before .args .table in
-    place-sum _ _ _ _ _ _ (p .0) (p .1) (p .2) _ _ (c .before .before .before .before .before .height-at .ensures .0 ∙ ap (height (wordAt (t .now))) (c .before .before .before .before .before .before .node .ensures)) (c .before .before .before .height-at2 .ensures .0 ∙ ap (height (wordAt (t .now))) (c .before .before .before .before .node2 .ensures)) _ _ (c .before .count-edge .ensures) (c .count-edge2 .ensures)
+returns c = let a = c .before .before .before .before .before .before .before .before .before in place-sum _ _ _ _ _ _ (a .pre .0) (a .pre .1) (a .pre .2) _ _ (c .before .before .before .before .before .height-at .ensures .0 ∙ ap (height (wordAt (a .args .table .now))) (c .before .before .before .before .before .before .node .ensures)) (c .before .before .before .height-at2 .ensures .0 ∙ ap (height (wordAt (a .args .table .now))) (c .before .before .before .before .node2 .ensures)) _ _ (c .before .count-edge .ensures) (c .count-edge2 .ensures)
 
 pub count-node-spec : {M : Type 1} → statement M
 count-node-spec =

@@ -1,11 +1,12 @@
 -- `checking::walk::branch_of` meets its contract. Assumes nothing.
 use borrow.Author.Needs.{needs}
-use Rattle.checking.proofs.Walking.{branch-high, branch-low, within-tall}
+use Rattle.diagram.proofs.Inside.{inside-tall}
+use Rattle.checking.proofs.Walking.{branch-high, branch-low}
 use Rattle.checking.proofs.walk.branch_of.Statement.{statement}
 use Rattle.checking.proofs.walk.branch_of.Tie as tie
 
 sub-if1 : tie.Need-sub-if1
-sub-if1 c = within-tall _ _ _ _ _ (c .before .before .before .pre .0) (c .before .before .before .pre .1) (c .before .record-at .ensures)
+sub-if1 c = inside-tall _ _ _ _ _ (c .before .before .before .pre .0) (c .before .before .before .pre .1) (c .before .record-at .ensures)
 
 returns : tie.Need-returns
 returns c = branch-high _ _ _ _ _ _ (c .before .before .before .before .record-at .ensures) (c .before .if1 .taken)
