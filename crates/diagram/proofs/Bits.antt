@@ -1,7 +1,7 @@
 -- Laws of a number's bits. Assumes nothing.
 use Prim.Native.Nat.{ℕ, suc, _+_, _-_, _/_, _%_, _^_, _≤_, _<_}
 use mathlib.Core.Path.{_≡_, ap, subst}
-use mathlib.Core.Bool.{true, false}
+use mathlib.Core.Bool.{Bool, true, false}
 use native.Mathlib.Nat.{mod-mod, mod-lt, div-eq-of-lt, add-div-right, add-mod-right}
 use native.Mathlib.Omega.{arith}
 use lib.Dec.{eqb}
@@ -19,28 +19,20 @@ pub bit-mod : (h H x : ℕ) → 0 < h → h ≤ H → bit h (x % 2 ^ H) ≡ bit 
 unfolding bit
 bit-mod h H x p l = ap (λ d. eqb d 1) (digit-mod (h - 1) H x (omega arith))
 
--- x with the bit of weight 2 ^ m set, or clear, and no bit above it
-unfoldable pub withSet : ℕ → ℕ → ℕ
-withSet h x = x % 2 ^ (h - 1) + 2 ^ (h - 1)
+-- x with the bit of weight 2 ^ (h - 1) set, or clear, and no bit above it
+unfoldable pub withBit : Bool → ℕ → ℕ → ℕ
+withBit true h x = x % 2 ^ (h - 1) + 2 ^ (h - 1)
+withBit false h x = x % 2 ^ (h - 1)
 
-unfoldable pub withClear : ℕ → ℕ → ℕ
-withClear h x = x % 2 ^ (h - 1)
+pub bit-with : (b : Bool) (h x : ℕ) → bit h (withBit b h x) ≡ b
+unfolding bit withBit
+bit-with true h x = rw (add-div-right (x % 2 ^ (h - 1)) (pow-pos (h - 1)), div-eq-of-lt (mod-lt x (pow-pos (h - 1))))
+bit-with false h x = rw (div-eq-of-lt (mod-lt x (pow-pos (h - 1))))
 
-pub bit-set : (h x : ℕ) → bit h (withSet h x) ≡ true
-unfolding bit withSet
-bit-set h x = rw (add-div-right (x % 2 ^ (h - 1)) (pow-pos (h - 1)), div-eq-of-lt (mod-lt x (pow-pos (h - 1))))
-
-pub bit-clear : (h x : ℕ) → bit h (withClear h x) ≡ false
-unfolding bit withClear
-bit-clear h x = rw (div-eq-of-lt (mod-lt x (pow-pos (h - 1))))
-
-pub set-mod : (h x : ℕ) → withSet h x % 2 ^ (h - 1) ≡ x % 2 ^ (h - 1)
-unfolding withSet
-set-mod h x = rw (add-mod-right, mod-mod)
-
-pub clear-mod : (h x : ℕ) → withClear h x % 2 ^ (h - 1) ≡ x % 2 ^ (h - 1)
-unfolding withClear
-clear-mod h x = rw mod-mod
+pub with-mod : (b : Bool) (h x : ℕ) → withBit b h x % 2 ^ (h - 1) ≡ x % 2 ^ (h - 1)
+unfolding withBit
+with-mod true h x = rw (add-mod-right, mod-mod)
+with-mod false h x = rw mod-mod
 
 -- every bit of 2 ^ n - 1 is set
 pub bit-ones : (h n : ℕ) → 0 < h → h ≤ n → bit h (2 ^ n - 1) ≡ true

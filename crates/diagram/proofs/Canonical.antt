@@ -1,16 +1,17 @@
 -- Two proper diagrams over the same settings that permit the same setups are the same. Assumes nothing.
 use Prim.Native.Nat.{ℕ, zero, suc, _+_, _-_, _/_, _%_, _^_, _≤_, _<_}
 use mathlib.Core.Path.{_≡_, refl, sym, ap, _∙_, subst}
-use mathlib.Core.Logic.{_⊎_, inl, inr}
+use mathlib.Core.Bool.{Bool, true, false}
+use mathlib.Core.Logic.{inl, inr}
 use native.Mathlib.Nat.{le-refl, le-antisymm, mod-lt}
 use native.Mathlib.Omega.{arith}
 use lib.Pow.{pow-pos}
 use Rattle.diagram.specs.Format.{Words, height, thenEdge, elseEdge}
 use Rattle.diagram.specs.Meaning.{branch, flip, holds, plain, under}
 use Rattle.diagram.specs.Ordered.{Reduced, Named, Proper}
-use Rattle.diagram.proofs.Paths.{branch-node, height-le-settings}
+use Rattle.diagram.proofs.Paths.{side, side-node, branch-node, height-le-settings}
 use Rattle.diagram.proofs.Local.{under-mod}
-use Rattle.diagram.proofs.Unique.{same-flag, same-node, node-unique, not-taller, same-then, same-else, ascending, record-fields, unique}
+use Rattle.diagram.proofs.Unique.{same-flag, same-node, node-unique, not-taller, same-side, ascending, record-fields, unique}
 use Rattle.words.proofs.Cases.{Tri, less, same, more, tri}
 
 -- records that agree give nodes that mean the same
@@ -23,16 +24,11 @@ agree w w′ n N D m l a (suc d) (suc k) x q =
     rw (← (a k q)) (ap (flip (branch w (suc k) x % 2)) (agree w w′ n N D m l a d (branch w (suc k) x / 2) x (omega arith)))
 
 -- nodes that mean the same have one height
-module _ (w w′ : Words) (n N N′ : ℕ) (D : Reduced w n N) (D′ : Reduced w′ n N′) where
-  height-le : (k b : ℕ) → k ≤ N → b ≤ N′ → ((x : ℕ) → plain w k x ≡ plain w′ b x) → height w k ≤ height w′ b
-  unfolding height
-  height-le zero b l m s = omega arith
-  height-le (suc k) b l m s = not-taller w w′ n N N′ D D′ k b l m (unique w n N D k (omega arith)) s
-
 same-height : (w w′ : Words) (n N N′ : ℕ) (D : Reduced w n N) (D′ : Reduced w′ n N′) (k b : ℕ) → k ≤ N → b ≤ N′
     → ((x : ℕ) → plain w k x ≡ plain w′ b x) → height w k ≡ height w′ b
 same-height w w′ n N N′ D D′ k b l m s =
-    le-antisymm (height-le w w′ n N N′ D D′ k b l m s) (height-le w′ w n N′ N D′ D b k m l (λ x. sym (s x)))
+    le-antisymm (not-taller w w′ n N N′ D D′ N k b (omega arith) l m (unique w n N D N (le-refl N)) s)
+    (not-taller w′ w n N′ N D′ D N′ b k (omega arith) m l (unique w′ n N′ D′ N′ (le-refl N′)) (λ x. sym (s x)))
 
 -- a node of w′, of N′ nodes, that means the same as node k of w
 record Twin (w w′ : Words) (N′ k : ℕ) : Type 0 where
@@ -42,29 +38,20 @@ record Twin (w w′ : Words) (N′ k : ℕ) : Type 0 where
 
 module _ (w w′ : Words) (n N N′ : ℕ) (D : Reduced w n N) (D′ : Reduced w′ n N′) (M : Named w N) (top : (x : ℕ) → plain w N x ≡ plain w′ N′ x) where
   -- the twin of a child is the child of the twin
-  child : (k j : ℕ) → j < N → Twin w w′ N′ (suc j) → (thenEdge w (suc j) / 2 ≡ k) ⊎ (elseEdge w (suc j) / 2 ≡ k) → Twin w w′ N′ k
+  child : (c : Bool) (j : ℕ) → j < N → Twin w w′ N′ (suc j) → Twin w w′ N′ (side w c (suc j) / 2)
   unfolding height
-  child k j l t = go (t .node) (t .inside) (t .means)
+  child c j l t = go (t .node) (t .inside) (t .means)
     where
-      go : (b : ℕ) → b ≤ N′ → ((x : ℕ) → plain w (suc j) x ≡ plain w′ b x) → (thenEdge w (suc j) / 2 ≡ k) ⊎ (elseEdge w (suc j) / 2 ≡ k) → Twin w w′ N′ k
-      go zero i s c = let p = D .ordered .tall j l in absurd (omega (arith, same-height w w′ n N N′ D D′ (suc j) 0 l i s))
-      go (suc b) i s (inl e) =
-          let p = D .ordered .then-node j l in
-          let q = D′ .ordered .then-node b i in
+      go : (b : ℕ) → b ≤ N′ → ((x : ℕ) → plain w (suc j) x ≡ plain w′ b x) → Twin w w′ N′ (side w c (suc j) / 2)
+      go zero i s = let p = D .ordered .tall j l in absurd (omega (arith, same-height w w′ n N N′ D D′ (suc j) 0 l i s))
+      go (suc b) i s =
+          let p = side-node w n N (D .ordered) c j l in
+          let q = side-node w′ n N′ (D′ .ordered) c b i in
           record {
-            node = thenEdge w′ (suc b) / 2;
+            node = side w′ c (suc b) / 2;
             inside = omega arith;
-            means = λ x. rw (← e) (same-node w w′ n N N′ D D′ (thenEdge w (suc j)) (thenEdge w′ (suc b)) (omega arith) (omega arith)
-                (same-then w w′ n N N′ D D′ j b l i (same-height w w′ n N N′ D D′ (suc j) (suc b) l i s) s) x);
-          }
-      go (suc b) i s (inr e) =
-          let p = D .ordered .else-node j l in
-          let q = D′ .ordered .else-node b i in
-          record {
-            node = elseEdge w′ (suc b) / 2;
-            inside = omega arith;
-            means = λ x. rw (← e) (same-node w w′ n N N′ D D′ (elseEdge w (suc j)) (elseEdge w′ (suc b)) (omega arith) (omega arith)
-                (same-else w w′ n N N′ D D′ j b l i (same-height w w′ n N N′ D D′ (suc j) (suc b) l i s) s) x);
+            means = same-node w w′ n N N′ D D′ (side w c (suc j)) (side w′ c (suc b)) (omega arith) (omega arith)
+                (same-side w w′ n N N′ D D′ c j b l i (same-height w w′ n N N′ D D′ (suc j) (suc b) l i s) s);
           }
 
   -- every node has a twin: the last one, and then what a record with a twin names
@@ -74,15 +61,16 @@ module _ (w w′ : Words) (n N N′ : ℕ) (D : Reduced w n N) (D′ : Reduced w
   twin (suc d) zero l m = record { node = 0; inside = omega arith; means = λ x. refl }
   twin (suc d) (suc k) l m = go (tri (suc k) N) (λ j p q. twin d (suc j) (omega arith) q)
     where
+      -- what a record with a twin names
+      by : (c : Bool) (j : ℕ) → j < N → side w c (suc j) / 2 ≡ suc k → ((j : ℕ) → suc k ≤ j → j < N → Twin w w′ N′ (suc j)) → Twin w w′ N′ (suc k)
+      by c j i e f = let p = side-node w n N (D .ordered) c j i in subst (Twin w w′ N′) e (child c j i (f j (omega arith) i))
+
       go : Tri (suc k) N → ((j : ℕ) → suc k ≤ j → j < N → Twin w w′ N′ (suc j)) → Twin w w′ N′ (suc k)
       go (same e) f = rw e (record { node = N′; inside = le-refl N′; means = top })
       go (more q) f = absurd (omega arith)
       go (less q) f =
           let r = M k q in
-          let a = D .ordered .then-node (r .0) (r .1) in
-          let b = D .ordered .else-node (r .0) (r .1) in
-          let p : suc k ≤ r .0 = elim (r .2) [ inl e ↦ omega arith | inr e ↦ omega arith ] in
-          child (suc k) (r .0) (r .1) (f (r .0) p (r .1)) (r .2)
+          elim (r .2) [ inl e ↦ by true (r .0) (r .1) e f | inr e ↦ by false (r .0) (r .1) e f ]
 
 -- nodes that mean the same are the same
 means-inj : (w : Words) (n N : ℕ) (D : Reduced w n N) (a b : ℕ) → a ≤ N → b ≤ N → ((x : ℕ) → plain w a x ≡ plain w b x) → a ≡ b
@@ -112,11 +100,9 @@ module _ (w w′ : Words) (n N N′ : ℕ) (D : Reduced w n N) (D′ : Reduced w
       record-of : (i : ℕ) → i < N′ → ((x : ℕ) → plain w (suc m) x ≡ plain w′ (suc i) x) → w (suc m) ≡ w′ (suc i)
       record-of i q s =
           let h = same-height w w′ n N N′ D D′ (suc m) (suc i) l q s in
-          let t = D′ .ordered .then-node i q in
-          let e = D′ .ordered .else-node i q in
-          record-fields w m w′ i h
-          (edge (thenEdge w (suc m)) (thenEdge w′ (suc i)) (D .ordered .then-node m l) (omega arith) (same-then w w′ n N N′ D D′ m i l q h s))
-          (edge (elseEdge w (suc m)) (elseEdge w′ (suc i)) (D .ordered .else-node m l) (omega arith) (same-else w w′ n N N′ D D′ m i l q h s))
+          record-fields w m w′ i h λ c.
+          let p = side-node w′ n N′ (D′ .ordered) c i q in
+          edge (side w c (suc m)) (side w′ c (suc i)) (side-node w n N (D .ordered) c m l) (omega arith) (same-side w w′ n N N′ D D′ c m i l q h s)
 
       go : (b : ℕ) → b ≤ N′ → ((x : ℕ) → plain w (suc m) x ≡ plain w′ b x) → (m < N′) × (w′ (suc m) ≤ w (suc m))
       go zero i s = absurd (low 0 (omega arith) s)

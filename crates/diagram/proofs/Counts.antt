@@ -1,7 +1,7 @@
 -- How the places of the sheet and the total are computed: node by node, over gaps and flags. Assumes nothing.
 use Prim.Native.Nat.{ℕ, zero, suc, _+_, _-_, _*_, _/_, _%_, _^_, _≤_, _<_}
 use mathlib.Core.Path.{_≡_, refl, sym, ap, ap₂, _∙_}
-use mathlib.Core.Bool.{Bool}
+use mathlib.Core.Bool.{Bool, true, false}
 use native.Mathlib.Nat.{le-refl, add-mod-left, mod-eq-of-lt, add-comm}
 use native.Mathlib.Omega.{arith}
 use Rattle.diagram.specs.Format.{Words, settings, root, height, thenEdge, elseEdge}
@@ -9,10 +9,10 @@ use Rattle.diagram.specs.Meaning.{flip, plain, under, permitted}
 use Rattle.diagram.specs.Count.{countBelow, place, total}
 use Rattle.diagram.specs.Reading.{opposite, edgeCount}
 use Rattle.diagram.proofs.CountLaws.{count-cong, count-not, count-gap, count-half}
-use Rattle.diagram.proofs.Bits.{withSet, withClear}
+use Rattle.diagram.proofs.Bits.{withBit}
 use Rattle.diagram.specs.Ordered.{Ordered}
 use Rattle.diagram.proofs.Paths.{height-le-settings}
-use Rattle.diagram.proofs.Local.{under-agree, plain-set, plain-clear}
+use Rattle.diagram.proofs.Local.{under-agree, plain-with}
 
 pub count-flip : (f : ℕ) (P : ℕ → Bool) (m : ℕ) → countBelow (λ x. flip f (P x)) m ≡ opposite f m (countBelow P m)
 unfolding flip opposite
@@ -39,15 +39,15 @@ module _ (w : Words) (n N : ℕ) (D : Ordered w n N) where
 
   -- the halves of a node, at the setups below its height
   else-half : (k x : ℕ) → k < N → x < 2 ^ (height w (suc k) - 1) → plain w (suc k) x ≡ under w (elseEdge w (suc k)) x
-  unfolding withClear
-  else-half k x m l = ap (plain w (suc k)) (sym (mod-eq-of-lt l)) ∙ plain-clear w n N D k x m
+  unfolding withBit
+  else-half k x m l = ap (plain w (suc k)) (sym (mod-eq-of-lt l)) ∙ plain-with w n N D false k x m
 
   then-half : (k x : ℕ) → k < N → x < 2 ^ (height w (suc k) - 1)
       → plain w (suc k) (2 ^ (height w (suc k) - 1) + x) ≡ under w (thenEdge w (suc k)) x
-  unfolding withSet
+  unfolding withBit
   then-half k x m l =
       let b = 2 ^ (height w (suc k) - 1) in
-      ap (plain w (suc k)) (add-comm b x ∙ ap (λ y. y + b) (sym (mod-eq-of-lt l))) ∙ plain-set w n N D k x m
+      ap (plain w (suc k)) (add-comm b x ∙ ap (λ y. y + b) (sym (mod-eq-of-lt l))) ∙ plain-with w n N D true k x m
 
   -- a place is the sum of the counts of its node's two edges
   pub place-node : (k : ℕ) → k < N

@@ -1,14 +1,14 @@
 -- A node looks only at the settings below its height: its meaning at a setup with one setting fixed. Assumes nothing.
 use Prim.Native.Nat.{ℕ, zero, suc, _-_, _/_, _%_, _^_, _≤_, _<_}
 use mathlib.Core.Path.{_≡_, refl, sym, ap, _∙_}
-use mathlib.Core.Bool.{true, cond}
+use mathlib.Core.Bool.{Bool, true}
 use native.Mathlib.Nat.{le-refl}
 use native.Mathlib.Omega.{arith}
-use Rattle.diagram.specs.Format.{Words, height, thenEdge, elseEdge}
+use Rattle.diagram.specs.Format.{Words, height, thenEdge}
 use Rattle.diagram.specs.Meaning.{branch, flip, holds, plain, under}
 use Rattle.diagram.specs.Ordered.{Ordered, Reduced}
-use Rattle.diagram.proofs.Paths.{branch-node, branch-height, plain-step}
-use Rattle.diagram.proofs.Bits.{bit-mod, withSet, withClear, bit-set, bit-clear, set-mod, clear-mod, bit-ones}
+use Rattle.diagram.proofs.Paths.{side, side-node, side-height, branch-node, branch-height, plain-step}
+use Rattle.diagram.proofs.Bits.{bit-mod, withBit, bit-with, with-mod, bit-ones}
 
 module _ (w : Words) (n N : ℕ) (D : Ordered w n N) where
   -- the settings of weight 2 ^ H and above do not matter, where H is at least the node's height
@@ -38,26 +38,16 @@ module _ (w : Words) (n N : ℕ) (D : Ordered w n N) where
   pub under-agree : (e H x y : ℕ) → e / 2 ≤ N → height w (e / 2) ≤ H → x % 2 ^ H ≡ y % 2 ^ H → under w e x ≡ under w e y
   under-agree e H x y m q r = sym (under-mod e H x m q) ∙ ap (under w e) r ∙ under-mod e H y m q
 
-  -- the two halves of a node: its own setting on, and off
-  pub plain-set : (k x : ℕ) → k < N → plain w (suc k) (withSet (height w (suc k)) x) ≡ under w (thenEdge w (suc k)) x
+  -- a half of a node, where its own setting is on or off, is what the edge of that side permits
+  pub plain-with : (b : Bool) (k x : ℕ) → k < N → plain w (suc k) (withBit b (height w (suc k)) x) ≡ under w (side w b (suc k)) x
   unfolding branch
-  plain-set k x m =
+  plain-with b k x m =
       let h = height w (suc k) in
-      let a = D .then-node k m in
-      let b = D .then-height k m in
-      plain-step w n N D k (withSet h x) m
-      ∙ ap (λ c. under w (cond c (thenEdge w (suc k)) (elseEdge w (suc k))) (withSet h x)) (bit-set h x)
-      ∙ under-agree (thenEdge w (suc k)) (h - 1) (withSet h x) x (omega arith) (omega arith) (set-mod h x)
-
-  pub plain-clear : (k x : ℕ) → k < N → plain w (suc k) (withClear (height w (suc k)) x) ≡ under w (elseEdge w (suc k)) x
-  unfolding branch
-  plain-clear k x m =
-      let h = height w (suc k) in
-      let a = D .else-node k m in
-      let b = D .else-height k m in
-      plain-step w n N D k (withClear h x) m
-      ∙ ap (λ c. under w (cond c (thenEdge w (suc k)) (elseEdge w (suc k))) (withClear h x)) (bit-clear h x)
-      ∙ under-agree (elseEdge w (suc k)) (h - 1) (withClear h x) x (omega arith) (omega arith) (clear-mod h x)
+      let p = side-node w n N D b k m in
+      let q = side-height w n N D b k m in
+      plain-step w n N D k (withBit b h x) m
+      ∙ ap (λ c. under w (side w c (suc k)) (withBit b h x)) (bit-with b h x)
+      ∙ under-agree (side w b (suc k)) (h - 1) (withBit b h x) x (omega arith) (omega arith) (with-mod b h x)
 
 -- the setup with every setting on passes then-edges only, whose flags are clear
 pub plain-ones : (w : Words) (n N : ℕ) → Reduced w n N → (k : ℕ) → k ≤ N → plain w k (2 ^ n - 1) ≡ true
@@ -75,6 +65,6 @@ plain-ones w n N R k = go k k (le-refl k)
         let t = thenEdge w (suc k) in
         let s : t / 2 ≤ k = D .then-node k m in
         plain-step w n N D k (2 ^ n - 1) m
-        ∙ ap (λ c. under w (cond c t (elseEdge w (suc k))) (2 ^ n - 1)) (bit-ones (height w (suc k)) n (D .tall k m) (D .low k m))
+        ∙ ap (λ c. under w (side w c (suc k)) (2 ^ n - 1)) (bit-ones (height w (suc k)) n (D .tall k m) (D .low k m))
         ∙ ap (λ f. flip f (plain w (t / 2) (2 ^ n - 1))) (R .then-plain k m)
         ∙ go d (t / 2) (omega arith) (omega arith)

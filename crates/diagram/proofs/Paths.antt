@@ -17,20 +17,28 @@ pub under-never : (w : Words) (x : ℕ) → under w 1 x ≡ false
 unfolding under flip plain holds
 under-never w x = refl
 
--- a Boolean choice, by its cases
-choose : (P : ℕ → Type 0) (b : Bool) {t e : ℕ} → P t → P e → P (cond b t e)
-choose P true p q = p
-choose P false p q = q
+-- an edge of node k by its side: the then-edge, or the else-edge
+abbrev pub side : Words → Bool → ℕ → ℕ
+side w b k = cond b (thenEdge w k) (elseEdge w k)
 
 module _ (w : Words) (n N : ℕ) (D : Ordered w n N) where
-  -- the edge taken leads to a smaller node
+  -- either edge leads to a smaller node, of smaller height
+  pub side-node : (b : Bool) (k : ℕ) → k < N → side w b (suc k) / 2 ≤ k
+  side-node true k l = D .then-node k l
+  side-node false k l = D .else-node k l
+
+  pub side-height : (b : Bool) (k : ℕ) → k < N → height w (side w b (suc k) / 2) < height w (suc k)
+  side-height true k l = D .then-height k l
+  side-height false k l = D .else-height k l
+
+  -- so does the edge taken
   pub branch-node : (k x : ℕ) → k < N → branch w (suc k) x / 2 ≤ k
   unfolding branch
-  branch-node k x l = choose (λ e. e / 2 ≤ k) (bit (height w (suc k)) x) (D .then-node k l) (D .else-node k l)
+  branch-node k x l = side-node (bit (height w (suc k)) x) k l
 
   pub branch-height : (k x : ℕ) → k < N → height w (branch w (suc k) x / 2) < height w (suc k)
   unfolding branch
-  branch-height k x l = choose (λ e. height w (e / 2) < height w (suc k)) (bit (height w (suc k)) x) (D .then-height k l) (D .else-height k l)
+  branch-height k x l = side-height (bit (height w (suc k)) x) k l
 
   -- as many nodes allowed as the node's number, or more: the same answer
   pub holds-fuel : (d k x : ℕ) → k ≤ d → k ≤ N → holds w d k x ≡ plain w k x
@@ -73,18 +81,14 @@ module _ (w : Words) (n N : ℕ) (D : Ordered w n N) where
   tall-node zero p l = absurd (omega arith)
   tall-node (suc k) p l = D .tall k l
 
-  pub then-lower : (k : ℕ) → 0 < k → k ≤ N → Lower w k (thenEdge w k)
-  then-lower zero p l = absurd (omega arith)
-  then-lower (suc k) p l = record { node = omega (arith, D .then-node k l); low = D .then-height k l }
-
-  pub else-lower : (k : ℕ) → 0 < k → k ≤ N → Lower w k (elseEdge w k)
-  else-lower zero p l = absurd (omega arith)
-  else-lower (suc k) p l = record { node = omega (arith, D .else-node k l); low = D .else-height k l }
+  pub side-lower : (b : Bool) (k : ℕ) → 0 < k → k ≤ N → Lower w k (side w b k)
+  side-lower b zero p l = absurd (omega arith)
+  side-lower b (suc k) p l = record { node = omega (arith, side-node w n N D b k l); low = side-height w n N D b k l }
 
   -- the edge by which a setup leaves a node
   pub branch-lower : (k x : ℕ) → 0 < k → k ≤ N → Lower w k (branch w k x)
-  branch-lower zero x p l = absurd (omega arith)
-  branch-lower (suc k) x p l = record { node = omega (arith, branch-node w n N D k x l); low = branch-height w n N D k x l }
+  unfolding branch
+  branch-lower k x p l = side-lower (bit (height w k) x) k p l
 
   pub plain-branch : (k x : ℕ) → 0 < k → k ≤ N → plain w k x ≡ under w (branch w k x) x
   plain-branch zero x p l = absurd (omega arith)

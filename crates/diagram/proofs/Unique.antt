@@ -1,14 +1,15 @@
 -- Inside one proper diagram two edges with the same meaning are the same edge. Assumes nothing.
 use Prim.Native.Nat.{ℕ, zero, suc, _+_, _-_, _*_, _/_, _%_, _^_, _≤_, _<_}
 use mathlib.Core.Path.{_≡_, refl, sym, ap, ap₂, _∙_}
-use mathlib.Core.Bool.{Bool, true, not, true≢false, Bool·not-not}
-use native.Mathlib.Nat.{div-div-eq-div-mul}
+use mathlib.Core.Bool.{Bool, true, false, not, true≢false, Bool·not-not}
+use native.Mathlib.Nat.{le-antisymm, div-div-eq-div-mul}
 use native.Mathlib.Omega.{arith}
 use Rattle.diagram.specs.Format.{highField, middleField, lowField, Words, height, thenEdge, elseEdge}
 use Rattle.diagram.specs.Meaning.{flip, plain, under}
-use Rattle.diagram.proofs.Bits.{withSet, withClear, set-mod, clear-mod}
+use Rattle.diagram.proofs.Bits.{withBit, with-mod}
 use Rattle.diagram.specs.Ordered.{Reduced}
-use Rattle.diagram.proofs.Local.{plain-mod, plain-set, plain-clear, plain-ones}
+use Rattle.diagram.proofs.Paths.{side, side-node}
+use Rattle.diagram.proofs.Local.{plain-mod, plain-with, plain-ones}
 use Rattle.words.proofs.Cases.{less, same, more, tri}
 
 -- a word is its fields
@@ -17,11 +18,11 @@ unfolding highField middleField lowField
 word-fields v = omega (arith, div-div-eq-div-mul v (2 ^ 29) (2 ^ 29))
 
 -- a record is its height and its edges
-pub record-fields : (w : Words) (j : ℕ) (w′ : Words) (k : ℕ) → height w (suc j) ≡ height w′ (suc k) → thenEdge w (suc j) ≡ thenEdge w′ (suc k)
-    → elseEdge w (suc j) ≡ elseEdge w′ (suc k) → w (suc j) ≡ w′ (suc k)
+pub record-fields : (w : Words) (j : ℕ) (w′ : Words) (k : ℕ) → height w (suc j) ≡ height w′ (suc k) → ((b : Bool) → side w b (suc j) ≡ side w′ b (suc k))
+    → w (suc j) ≡ w′ (suc k)
 unfolding height thenEdge elseEdge
-record-fields w j w′ k p q r =
-    word-fields (w (suc j)) ∙ ap₂ _+_ (ap₂ _+_ (ap (λ a. a * 2 ^ 58) p) (ap (λ a. a * 2 ^ 29) q)) r ∙ sym (word-fields (w′ (suc k)))
+record-fields w j w′ k h e =
+    word-fields (w (suc j)) ∙ ap₂ _+_ (ap₂ _+_ (ap (λ a. a * 2 ^ 58) h) (ap (λ a. a * 2 ^ 29) (e true))) (e false) ∙ sym (word-fields (w′ (suc k)))
 
 -- two flags that turn `true` alike are equal
 flip-true : (f g : ℕ) → f < 2 → g < 2 → flip f true ≡ flip g true → f ≡ g
@@ -57,35 +58,34 @@ module _ (w w′ : Words) (n N N′ : ℕ) (D : Reduced w n N) (D′ : Reduced w
       (s x ∙ ap (λ f. flip f (plain w′ (e′ / 2) x)) (sym (same-flag e e′ l l′ s)))
 
   -- a node is not taller than one that means the same: its two edges would mean the same
-  pub not-taller : (k b : ℕ) → k < N → b ≤ N′ → Unique w k → ((x : ℕ) → plain w (suc k) x ≡ plain w′ b x) → height w (suc k) ≤ height w′ b
-  not-taller k b l l′ u s = elim (tri (height w′ b) (height w (suc k))) [ less q ↦ absurd (D .differ k l (equal q)) | same q ↦ omega arith | more q ↦ omega arith ]
+  pub not-taller : (d k b : ℕ) → k ≤ suc d → k ≤ N → b ≤ N′ → Unique w d → ((x : ℕ) → plain w k x ≡ plain w′ b x) → height w k ≤ height w′ b
+  unfolding height
+  not-taller d zero b i l l′ u s = omega arith
+  not-taller d (suc k) b i l l′ u s = elim (tri (height w′ b) (height w (suc k))) [ less q ↦ absurd (D .differ k l (equal q)) | same q ↦ omega arith | more q ↦ omega arith ]
     where
       h : ℕ
       h = height w (suc k)
 
+      -- the taller node's own setting does not matter
+      half : (c : Bool) → height w′ b < h → (x : ℕ) → under w (side w c (suc k)) x ≡ plain w′ b (x % 2 ^ (h - 1))
+      half c q x =
+          sym (plain-with w n N (D .ordered) c k x l)
+          ∙ s (withBit c h x)
+          ∙ sym (plain-mod w′ n N′ (D′ .ordered) b (h - 1) (withBit c h x) l′ (omega arith))
+          ∙ ap (plain w′ b) (with-mod c h x)
+
       equal : height w′ b < h → thenEdge w (suc k) ≡ elseEdge w (suc k)
       equal q =
-          u (thenEdge w (suc k)) (elseEdge w (suc k)) (D .ordered .then-node k l) (D .ordered .else-node k l) λ x.
-          sym (plain-set w n N (D .ordered) k x l)
-          ∙ s (withSet h x)
-          ∙ sym (plain-mod w′ n N′ (D′ .ordered) b (h - 1) (withSet h x) l′ (omega arith))
-          ∙ ap (plain w′ b) (set-mod h x ∙ sym (clear-mod h x))
-          ∙ plain-mod w′ n N′ (D′ .ordered) b (h - 1) (withClear h x) l′ (omega arith)
-          ∙ sym (s (withClear h x))
-          ∙ plain-clear w n N (D .ordered) k x l
+          let p = D .ordered .then-node k l in
+          let r = D .ordered .else-node k l in
+          u (thenEdge w (suc k)) (elseEdge w (suc k)) (omega arith) (omega arith) (λ x. half true q x ∙ sym (half false q x))
 
   -- nodes of one height that mean the same have edges that mean the same
-  pub same-then : (j k : ℕ) → j < N → k < N′ → height w (suc j) ≡ height w′ (suc k) → ((x : ℕ) → plain w (suc j) x ≡ plain w′ (suc k) x)
-      → (x : ℕ) → under w (thenEdge w (suc j)) x ≡ under w′ (thenEdge w′ (suc k)) x
-  same-then j k l l′ q s x =
-      sym (plain-set w n N (D .ordered) j x l) ∙ s (withSet (height w (suc j)) x)
-      ∙ ap (λ h. plain w′ (suc k) (withSet h x)) q ∙ plain-set w′ n N′ (D′ .ordered) k x l′
-
-  pub same-else : (j k : ℕ) → j < N → k < N′ → height w (suc j) ≡ height w′ (suc k) → ((x : ℕ) → plain w (suc j) x ≡ plain w′ (suc k) x)
-      → (x : ℕ) → under w (elseEdge w (suc j)) x ≡ under w′ (elseEdge w′ (suc k)) x
-  same-else j k l l′ q s x =
-      sym (plain-clear w n N (D .ordered) j x l) ∙ s (withClear (height w (suc j)) x)
-      ∙ ap (λ h. plain w′ (suc k) (withClear h x)) q ∙ plain-clear w′ n N′ (D′ .ordered) k x l′
+  pub same-side : (c : Bool) (j k : ℕ) → j < N → k < N′ → height w (suc j) ≡ height w′ (suc k) → ((x : ℕ) → plain w (suc j) x ≡ plain w′ (suc k) x)
+      → (x : ℕ) → under w (side w c (suc j)) x ≡ under w′ (side w′ c (suc k)) x
+  same-side c j k l l′ q s x =
+      sym (plain-with w n N (D .ordered) c j x l) ∙ s (withBit c (height w (suc j)) x)
+      ∙ ap (λ h. plain w′ (suc k) (withBit c h x)) q ∙ plain-with w′ n N′ (D′ .ordered) c k x l′
 
 -- one diagram
 module _ (w : Words) (n N : ℕ) (D : Reduced w n N) where
@@ -104,28 +104,20 @@ module _ (w : Words) (n N : ℕ) (D : Reduced w n N) where
   -- nodes that mean the same are one node, where edges to lower nodes are known to
   pub node-unique : (d a b : ℕ) → a ≤ suc d → b ≤ suc d → suc d ≤ N → Unique w d → ((x : ℕ) → plain w a x ≡ plain w b x) → a ≡ b
   unfolding height
-  node-unique d zero zero l m t u s = refl
-  node-unique d (suc a) zero l m t u s =
-      let p = D .ordered .tall a (omega arith) in
-      let q : height w (suc a) ≤ height w 0 = not-taller w w n N N D D a 0 (omega arith) (omega arith) (λ e e′ x y. u e e′ (omega arith) (omega arith)) s in
-      omega arith
-  node-unique d zero (suc b) l m t u s =
-      let p = D .ordered .tall b (omega arith) in
-      let q : height w (suc b) ≤ height w 0 = not-taller w w n N N D D b 0 (omega arith) (omega arith) (λ e e′ x y. u e e′ (omega arith) (omega arith)) (λ x. sym (s x)) in
-      omega arith
-  node-unique d (suc a) (suc b) l m t u s =
-      let i : a < N = omega arith in
-      let j : b < N = omega arith in
-      let p = not-taller w w n N N D D a (suc b) i j (λ e e′ x y. u e e′ (omega arith) (omega arith)) s in
-      let q = not-taller w w n N N D D b (suc a) j i (λ e e′ x y. u e e′ (omega arith) (omega arith)) (λ x. sym (s x)) in
-      let h : height w (suc a) ≡ height w (suc b) = omega arith in
-      let c = D .ordered .then-node a i in
-      let c′ = D .ordered .then-node b j in
-      let f = D .ordered .else-node a i in
-      let f′ = D .ordered .else-node b j in
-      ap suc (record-inj a b i j (record-fields w a w b h
-      (u (thenEdge w (suc a)) (thenEdge w (suc b)) (omega arith) (omega arith) (same-then w w n N N D D a b i j h s))
-      (u (elseEdge w (suc a)) (elseEdge w (suc b)) (omega arith) (omega arith) (same-else w w n N N D D a b i j h s))))
+  node-unique d a b l m t u s =
+      go a b l m (le-antisymm (not-taller w w n N N D D d a b l (omega arith) (omega arith) u s) (not-taller w w n N N D D d b a m (omega arith) (omega arith) u (λ x. sym (s x)))) s
+    where
+      go : (a b : ℕ) → a ≤ suc d → b ≤ suc d → height w a ≡ height w b → ((x : ℕ) → plain w a x ≡ plain w b x) → a ≡ b
+      go zero zero l m h s = refl
+      go (suc a) zero l m h s = absurd (omega (arith, D .ordered .tall a (omega arith)))
+      go zero (suc b) l m h s = absurd (omega (arith, D .ordered .tall b (omega arith)))
+      go (suc a) (suc b) l m h s =
+          let i : a < N = omega arith in
+          let j : b < N = omega arith in
+          ap suc (record-inj a b i j (record-fields w a w b h λ c.
+          let p = side-node w n N (D .ordered) c a i in
+          let q = side-node w n N (D .ordered) c b j in
+          u (side w c (suc a)) (side w c (suc b)) (omega arith) (omega arith) (same-side w w n N N D D c a b i j h s)))
 
   -- an edge is its node and its flag
   edge-parts : (e e′ : ℕ) → e / 2 ≡ e′ / 2 → e % 2 ≡ e′ % 2 → e ≡ e′
