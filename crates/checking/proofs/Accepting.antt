@@ -1,28 +1,29 @@
 -- An operation after the check: its refusal is handed on, and otherwise the table is accepted and the sheet holds the counts. Assumes nothing.
 use Prim.Native.Nat.{ℕ, _+_, _*_, _/_, _%_, _^_, _≤_, _<_}
-use mathlib.Core.Path.{_≡_, sym, ap, subst, _∙_}
-use mathlib.Core.Bool.{Bool}
+use mathlib.Core.Path.{_≡_, sym, ap, _∙_}
+use mathlib.Core.Bool.{Bool, cond}
+use lib.Dec.{leb}
 use mathlib.Core.List.{List}
 use native.Mathlib.Omega.{arith}
 use lib.ListN.{length}
 use borrow.Author.Tests.{le-leb, lt-leb}
 use Rattle.words.specs.Words.{wordAt, wordsOver}
 use Rattle.words.proofs.Laws.{words-read, length-wordsOver}
-use Rattle.diagram.specs.Format.{Words, settings, nodes, root, height}
+use Rattle.diagram.specs.Format.{Words, settings, height}
 use Rattle.diagram.specs.Meaning.{under, permitted}
-use Rattle.diagram.specs.Count.{place, total}
+use Rattle.diagram.specs.Count.{countBelow, place, total}
 use Rattle.diagram.specs.Answer.{Answer, value, refusal, andThen}
 use Rattle.diagram.specs.Ordered.{HasDiagram, Accepted}
-use Rattle.diagram.specs.Reading.{IsHeader, Within, edgeCount}
+use Rattle.diagram.specs.Reading.{IsHeader, Within}
 use Rattle.diagram.proofs.Paths.{height-le-settings}
-use Rattle.diagram.proofs.Counts.{total-root}
 use Rattle.diagram.proofs.Accept.{check-accepted}
 use Rattle.checking.specs.declared.Checked.{Checked}
 use Rattle.checking.specs.declared.Checked.the-variants.{Table}
 use Rattle.checking.specs.declared.Shape.{Shape}
 use Rattle.checking.specs.Answers.{checkedAs}
 use Rattle.checking.specs.Operations.{checking, counting, testSetup, testing, sheetBy, sheetAfter}
-use Rattle.counting.proofs.Places.{one-shl, place-fits, Countable, countable}
+use Rattle.counting.specs.Inner.{Filled}
+use Rattle.counting.proofs.Places.{one-shl, place-fits}
 
 module _ (t s out : List ℕ) (a : Checked) (is : (checkedAs a ≡ checking t s) × (out ≡ sheetAfter t s)) where
   -- a refusal of the check is the operation's
@@ -72,43 +73,50 @@ module _ (t s out : List ℕ) (a : Checked) (is : (checkedAs a ≡ checking t s)
       pub root-within : Within t (e / 2)
       root-within = record { settings = n; nodes = N; holds = table-holds; inside = root-inside }
 
+      pub root-low : height w (e / 2) ≤ n
+      root-low = height-le-settings w n N (table-holds .ordered) (e / 2) root-inside
+
+      room : 8 * (N + 1) ≤ length s
+      room = omega (arith, accepted .1, nodes-is)
+
       filled : out ≡ wordsOver (place w) (N + 1) s
       unfolding sheetAfter sheetBy
       filled = is .1 ∙ rw (checking-is, h .nodes-is)
 
-      -- the root's place holds its count, where g is its height
-      pub root-room : 8 * (e / 2) + 8 ≤ length t
-      root-room = omega (arith, root-inside, table-holds .long)
+      -- the places up to the root's hold the counts
+      holds-place : (k : ℕ) → k ≤ N → wordAt out k ≡ place w k
+      holds-place k l =
+          ap (λ (x : List ℕ). wordAt x k) filled
+          ∙ words-read (place w) (N + 1) s k (omega arith) (place-fits w k (omega (arith, height-le-settings w n N (table-holds .ordered) k l, h .few-settings)))
 
-      module _ (v g : ℕ) (v-is : v ≡ e / 2) (g-is : g ≡ height w v) where
-        g-root : g ≡ height w (e / 2)
-        g-root = g-is ∙ ap (height w) v-is
+      pub root-filled : Filled t out (e / 2)
+      root-filled = record {
+        ready = record {
+          within = root-within;
+          room = omega (arith, ap length filled, length-wordsOver (place w) (N + 1) s room, room, root-inside);
+          places = λ k l. holds-place k (omega (arith, root-inside));
+        };
+        own = holds-place (e / 2) root-inside;
+      }
 
-        low : height w (e / 2) ≤ n
-        low = height-le-settings w n N (table-holds .ordered) (e / 2) root-inside
+      -- an answer by n and the root edge is the operation's
+      pub answered : {B : Type 0} (f : ℕ → (ℕ → Bool) → Answer B) (b : Answer B) → b ≡ f n (under w e) → b ≡ andThen (checking t s) (λ _. f (settings w) (permitted w))
+      unfolding permitted
+      answered f b q = q ∙ rw (h .settings-is, h .root-is) (sym (going-on (λ _. f (settings w) (permitted w))))
 
-        m : 8 * (N + 1) ≤ length s
-        m = omega (arith, accepted .1, nodes-is)
-
-        root-place : wordAt out (e / 2) ≡ place w (e / 2)
-        root-place = ap (λ (x : List ℕ). wordAt x (e / 2)) filled ∙ words-read (place w) (N + 1) s (e / 2) (omega (arith, root-inside)) (place-fits w (e / 2) (omega (arith, low, h .few-settings)))
-
-        pub root-ready : Countable out e g n
-        root-ready =
-            countable w out e g n (omega (arith, ap length filled, length-wordsOver (place w) (N + 1) s m, m, root-inside)) root-place g-root (omega (arith, g-root, low)) (h .few-settings)
-
-        -- counting
-        pub counted : (c : ℕ) → c ≡ edgeCount (e % 2) g n (wordAt out (e / 2)) → value c ≡ counting t s
-        unfolding counting
-        counted c q′ =
-            let r : root w / 2 ≤ N = subst (λ (x : ℕ). x / 2 ≤ N) (h .root-is) root-inside in
-            sym (going-on (λ _. value (total w)) ∙ ap value (total-root w n N (table-holds .ordered) r (sym (h .settings-is)) ∙ rw (← h .root-is, ← g-root, ← root-place) (sym q′)))
+      -- counting
+      pub counted : (c : ℕ) → c ≡ countBelow (under w e) (2 ^ n) → value c ≡ counting t s
+      unfolding counting total
+      counted c q′ = answered (λ n P. value (countBelow P (2 ^ n))) (value c) (ap value q′)
 
       -- testing
+      asked : ℕ → ℕ → (ℕ → Bool) → Answer Bool
+      asked x n P = cond (leb (2 ^ n) x) (refusal 12 0) (value (P x))
+
       pub too-large : (x : ℕ) → 1 * 2 ^ n % 18446744073709551616 ≤ x → refusal 12 0 ≡ testing t x s
-      unfolding testing testSetup
-      too-large x l = sym (going-on (λ _. testSetup w x) ∙ rw (← h .settings-is, le-leb (2 ^ n) x (rw (one-shl n (h .few-settings)) at l)))
+      unfolding testing testSetup asked
+      too-large x l = answered (asked x) (refusal 12 0) (rw (le-leb (2 ^ n) x (rw (one-shl n (h .few-settings)) at l)))
 
       pub tested : (x : ℕ) (b : Bool) → x < 1 * 2 ^ n % 18446744073709551616 → b ≡ under w e x → value b ≡ testing t x s
-      unfolding testing testSetup permitted
-      tested x b l q′ = sym (going-on (λ _. testSetup w x) ∙ rw (← h .settings-is, lt-leb (2 ^ n) x (rw (one-shl n (h .few-settings)) at l), ← h .root-is, q′))
+      unfolding testing testSetup asked
+      tested x b l q′ = answered (asked x) (value b) (rw (lt-leb (2 ^ n) x (rw (one-shl n (h .few-settings)) at l), q′))

@@ -1,5 +1,6 @@
 // The operations: checking, counting and testing. None has a `requires`: every table, sheet and setup gets its answer or its refusal.
 mod walk;
+pub use walk::permitted_under;
 
 ghost use mathlib.Core.Path.{_≡_};
 ghost use Prim.Native.Nat.{_+_, _*_, _≤_};
@@ -95,8 +96,8 @@ pub fn count(table: &[u8], sheet: &mut [u8]) -> Counted
         return Counted::Refused(refusal_of(checked));
     };
     let header = diagram::header_of(table);
-    let g = diagram::height_at(table, header.root.node());
-    Counted::Total(counting::count_edge(sheet, header.root, g, header.settings))
+    let c = counting::count_under(table, sheet, header.root, header.settings);
+    Counted::Total(c)
 }
 
 // Tests whether a setup is permitted.

@@ -22,6 +22,11 @@ pub record Ready (table sheet : List ℕ) (k : ℕ) : Type 0 where
   pub room : 8 * k + 8 ≤ length sheet
   pub places : HoldsPlaces (wordAt sheet) k (wordAt table)
 
+-- ... and its own too
+pub record Filled (table sheet : List ℕ) (k : ℕ) : Type 0 where
+  pub ready : Ready table sheet k
+  pub own : wordAt sheet k ≡ place (wordAt table) k
+
 -- a mark for each node that some record of 1 to m names
 abbrev pub Marked : List ℕ → ℕ → Words → Type 0
 Marked marks m w = (k : ℕ) → k < length marks → getD marks k 0 ≡ indicator (named w m k)

@@ -2,13 +2,13 @@
 use Prim.Native.Nat.{ℕ, zero, suc, _+_, _-_, _*_, _/_, _%_, _^_, _≤_, _<_}
 use mathlib.Core.Path.{_≡_, refl, sym, ap, ap₂, _∙_}
 use mathlib.Core.Bool.{Bool, true, false}
-use native.Mathlib.Nat.{le-refl, add-mod-left, mod-eq-of-lt, add-comm}
+use native.Mathlib.Nat.{le-refl, add-mod-left, mod-eq-of-lt, add-comm, two-pow-succ}
 use native.Mathlib.Omega.{arith}
 use Rattle.diagram.specs.Format.{Words, settings, root, height, thenEdge, elseEdge}
 use Rattle.diagram.specs.Meaning.{flip, plain, under, permitted}
 use Rattle.diagram.specs.Count.{countBelow, place, total}
 use Rattle.diagram.specs.Reading.{opposite, edgeCount}
-use Rattle.diagram.proofs.CountLaws.{count-cong, count-not, count-gap, count-half}
+use Rattle.diagram.proofs.CountLaws.{count-cong, count-add, count-not, count-blocks, count-gap}
 use Rattle.diagram.proofs.Bits.{withBit}
 use Rattle.diagram.specs.Ordered.{Ordered}
 use Rattle.diagram.proofs.Paths.{height-le-settings}
@@ -49,6 +49,28 @@ module _ (w : Words) (n N : ℕ) (D : Ordered w n N) where
       let b = 2 ^ (height w (suc k) - 1) in
       ap (plain w (suc k)) (add-comm b x ∙ ap (λ y. y + b) (sym (mod-eq-of-lt l))) ∙ plain-with w n N D true k x m
 
+  -- below a bound y under a node: within its else-half, or past it
+  pub below-else : (k y : ℕ) → k < N → y ≤ 2 ^ (height w (suc k) - 1) → countBelow (plain w (suc k)) y ≡ countBelow (under w (elseEdge w (suc k))) y
+  below-else k y m l = count-cong (plain w (suc k)) (under w (elseEdge w (suc k))) y (λ x q. else-half k x m (omega arith))
+
+  pub below-then : (k y : ℕ) → k < N → y ≤ 2 ^ (height w (suc k) - 1)
+      → countBelow (plain w (suc k)) (2 ^ (height w (suc k) - 1) + y)
+      ≡ countBelow (under w (elseEdge w (suc k))) (2 ^ (height w (suc k) - 1)) + countBelow (under w (thenEdge w (suc k))) y
+  below-then k y m l =
+      let b = 2 ^ (height w (suc k) - 1) in
+      count-add (plain w (suc k)) b y
+      ∙ ap₂ _+_ (below-else k b m (le-refl b)) (count-cong (λ x. plain w (suc k) (b + x)) (under w (thenEdge w (suc k))) y (λ x q. then-half k x m (omega arith)))
+
+  -- ... and under an edge: the whole blocks of its gap, and the rest under its node
+  pub below-edge : (e y : ℕ) → e / 2 ≤ N
+      → countBelow (under w e) y
+      ≡ y / 2 ^ height w (e / 2) * countBelow (under w e) (2 ^ height w (e / 2)) + opposite (e % 2) (y % 2 ^ height w (e / 2)) (countBelow (plain w (e / 2)) (y % 2 ^ height w (e / 2)))
+  unfolding under
+  below-edge e y m =
+      let b = 2 ^ height w (e / 2) in
+      count-blocks (under w e) b y (λ x. under-period e x m)
+      ∙ ap (λ (c : ℕ). y / b * countBelow (under w e) b + c) (count-flip (e % 2) (plain w (e / 2)) (y % b))
+
   -- a place is the sum of the counts of its node's two edges
   pub place-node : (k : ℕ) → k < N
       → place w (suc k) ≡ countBelow (under w (elseEdge w (suc k))) (2 ^ (height w (suc k) - 1)) + countBelow (under w (thenEdge w (suc k))) (2 ^ (height w (suc k) - 1))
@@ -58,9 +80,8 @@ module _ (w : Words) (n N : ℕ) (D : Ordered w n N) where
       let t = D .tall k m in
       let s : suc (h - 1) ≡ h = omega arith in
       ap (λ (g : ℕ). countBelow (plain w (suc k)) (2 ^ g)) (sym s)
-      ∙ count-half (plain w (suc k)) (h - 1)
-      ∙ ap₂ _+_ (count-cong (plain w (suc k)) (under w (elseEdge w (suc k))) (2 ^ (h - 1)) (λ x l. else-half k x m l))
-      (count-cong (λ x. plain w (suc k) (2 ^ (h - 1) + x)) (under w (thenEdge w (suc k))) (2 ^ (h - 1)) (λ x l. then-half k x m l))
+      ∙ ap (countBelow (plain w (suc k))) (two-pow-succ (h - 1))
+      ∙ below-then k (2 ^ (h - 1)) m (le-refl (2 ^ (h - 1)))
 
   -- the recursion by which the sheet is filled
   pub place-rec : (k : ℕ) → k < N → place w (suc k) ≡ through w (height w (suc k) - 1) (elseEdge w (suc k)) + through w (height w (suc k) - 1) (thenEdge w (suc k))

@@ -1,9 +1,11 @@
 -- The laws of the definitions.
 pub mod CountLaws
 pub mod Bits
+pub mod Select
 pub mod Paths
 pub mod Local
 pub mod Counts
+pub mod Cofactor
 pub mod Unique
 pub mod Canonical
 pub mod AnswerLaws

@@ -1,6 +1,8 @@
 -- Counting, one by one. Assumes nothing.
 use Prim.Native.Nat.{ℕ, zero, suc, _+_, _^_}
-use mathlib.Core.Bool.{Bool, true, false, _||_}
+use mathlib.Core.Bool.{Bool, true, false, _&&_, _||_, cond}
+use mathlib.Core.Option.{Option, none, some}
+use lib.Dec.{eqb}
 use Rattle.diagram.specs.Format.{Words, settings, height}
 use Rattle.diagram.specs.Meaning.{plain, permitted}
 
@@ -13,6 +15,11 @@ indicator false = 0
 unfoldable pub countBelow : (ℕ → Bool) → ℕ → ℕ
 countBelow P zero = 0
 countBelow P (suc m) = countBelow P m + indicator (P m)
+
+-- the x < m that passes the test P with exactly r smaller ones that do, if there is one
+unfoldable pub select : (ℕ → Bool) → ℕ → ℕ → Option ℕ
+select P zero r = none
+select P (suc m) r = cond (P m && eqb (countBelow P m) r) (some m) (select P m r)
 
 -- whether some x < m passes the test P
 unfoldable pub someBelow : (ℕ → Bool) → ℕ → Bool

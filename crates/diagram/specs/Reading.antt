@@ -1,5 +1,7 @@
 -- What the functions that read and count a table answer, and what they need: for inner contracts only. Assumes nothing.
-use Prim.Native.Nat.{ℕ, zero, suc, _-_, _*_, _^_, _≤_}
+use Prim.Native.Nat.{ℕ, zero, suc, _+_, _-_, _*_, _/_, _%_, _^_, _≤_}
+use mathlib.Core.Bool.{Bool, cond}
+use lib.Dec.{ltb}
 use mathlib.Core.Path.{_≡_}
 use mathlib.Core.List.{List}
 use Rattle.diagram.specs.Format.{Words, highField, middleField, lowField, settings, nodes, root, height, thenEdge, elseEdge}
@@ -41,3 +43,12 @@ opposite (suc f) m c = m - c
 -- an edge with flag f from height H to a node of height h and count c: under a flag the opposite, and 2 ^ (H - h) times over the gap
 unfoldable pub edgeCount : ℕ → ℕ → ℕ → ℕ → ℕ
 edgeCount f h H c = 2 ^ (H - h) * opposite f (2 ^ h) c
+
+-- edge e, or its complement if f is set
+unfoldable pub turn : ℕ → ℕ → ℕ
+turn zero e = e
+turn (suc f) e = 2 * (e / 2) + (1 - e % 2)
+
+-- edge e as it goes on where the setting of height h is on or off (a cofactor): the node's own edge of that side, or e itself if the node lies lower
+unfoldable pub cofactor : Words → ℕ → Bool → ℕ → ℕ
+cofactor w h on e = cond (ltb (height w (e / 2)) h) e (turn (e % 2) (cond on (thenEdge w (e / 2)) (elseEdge w (e / 2))))

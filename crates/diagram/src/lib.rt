@@ -6,7 +6,7 @@ ghost use lib.ListN.{length};
 ghost use Rattle.words.specs.Words.{wordAt};
 ghost use Rattle.diagram.specs.Format.{height};
 ghost use Rattle.diagram.specs.Count.{indicator};
-ghost use Rattle.diagram.specs.Reading.{HasFields, IsHeader, IsRecord};
+ghost use Rattle.diagram.specs.Reading.{HasFields, IsHeader, IsRecord, turn};
 
 // A node's number. Node 0 is the sink.
 pub struct Node(pub usize);
@@ -50,6 +50,17 @@ impl Edge {
         ensures { λ r. ⌜ r ≡ eqb (self .value % 2) 1 ⌝ }
     {
         self.value % 2 == 1
+    }
+
+    // The edge with its flag turned over, if `over`.
+    pub fn turned(self, over: bool) -> Self
+        ensures { λ r. ⌜ r .value ≡ turn (indicator over) (self .value) ⌝ }
+    {
+        if over {
+            let e = self.value;
+            return Edge { value: 2 * (e / 2) + (1 - e % 2) };
+        }
+        self
     }
 }
 

@@ -25,6 +25,9 @@ pub enum Refusal {
     Unnamed(Node),
     Sheet,
     SetupRange,
+    Unpermitted,
+    RankRange,
+    PartRange,
 }
 
 // The number of a refusal.
@@ -43,6 +46,9 @@ pub fn number_of(refusal: Refusal) -> u64
         Refusal::Unnamed(_) => 9,
         Refusal::Sheet => 10,
         Refusal::SetupRange => 12,
+        Refusal::Unpermitted => 13,
+        Refusal::RankRange => 14,
+        Refusal::PartRange => 15,
     }
 }
 
@@ -62,6 +68,9 @@ pub fn place_of(refusal: Refusal) -> usize
         Refusal::Unnamed(k) => k.0,
         Refusal::Sheet => 0,
         Refusal::SetupRange => 0,
+        Refusal::Unpermitted => 0,
+        Refusal::RankRange => 0,
+        Refusal::PartRange => 0,
     }
 }
 

@@ -3,7 +3,7 @@ use mathlib.Core.Path.{sym, subst}
 use borrow.Author.Needs.{needs}
 use Rattle.checking.specs.Inner.{IsRefused}
 use Rattle.checking.specs.Operations.{counting}
-use Rattle.checking.proofs.Accepting.{handed-on, table-long, root-room, root-ready, counted}
+use Rattle.checking.proofs.Accepting.{handed-on, table-long, root-filled, root-low, counted}
 use Rattle.checking.proofs.count.Statement.{statement}
 use Rattle.checking.proofs.count.Tie as tie
 
@@ -17,17 +17,22 @@ returns c = (handed-on _ _ _ (c .before .before .before .before .before .check .
 header-of-requires : tie.Need-header-of-requires
 header-of-requires c κs = table-long _ _ _ _ (c .before .before .before .before .check .ensures) _ (c .enum-told .given .1)
 
-height-at-requires : tie.Need-height-at-requires
-height-at-requires c κs = rw (c .node .ensures) (root-room _ _ _ _ (c .before .before .before .before .before .before .check .ensures) _ (c .before .before .enum-told .given .1) _ _ _ (c .before .header-of .ensures))
-
-count-edge-requires : tie.Need-count-edge-requires
-count-edge-requires c κs = root-ready _ _ _ _ (c .before .before .before .before .before .before .before .before .check .ensures) _ (c .before .before .before .before .enum-told .given .1) _ _ _ (c .before .before .before .header-of .ensures) _ _ (c .before .before .node .ensures) (c .before .height-at .ensures .0)
+count-under-requires : tie.Need-count-under-requires
+count-under-requires c κs =
+    let a = c .before in
+    let is = a .before .before .before .before .before .check .ensures in
+    let q = a .before .enum-told .given .1 in
+    let h = a .header-of .ensures in
+    (root-filled _ _ _ _ is _ q _ _ _ h, root-low _ _ _ _ is _ q _ _ _ h, h .few-settings)
 
 returns-2 : tie.Need-returns-2
-returns-2 c = (counted _ _ _ _ (c .before .before .before .before .before .before .before .before .before .check .ensures) _ (c .before .before .before .before .before .enum-told .given .1) _ _ _ (c .before .before .before .before .header-of .ensures) _ _ (c .before .before .before .node .ensures) (c .before .before .height-at .ensures .0) _ (c .count-edge .ensures), c .before .before .before .before .before .before .before .before .before .check .ensures .1)
+returns-2 c =
+    let a = c .before .before in
+    let is = a .before .before .before .before .before .check .ensures in
+    (counted _ _ _ _ is _ (a .before .enum-told .given .1) _ _ _ (a .header-of .ensures) _ (c .count-under .ensures), is .1)
 
 pub count-spec : {M : Type 1} → statement M
 count-spec =
     tie.close
     (tie.spec (λ c κs. search needs) (λ c. search needs) (λ c. search needs) refusal-of-requires (λ c. search needs) returns
-    header-of-requires (λ c κs. search needs) height-at-requires count-edge-requires (λ c. search needs) returns-2)
+    header-of-requires count-under-requires (λ c. search needs) returns-2)

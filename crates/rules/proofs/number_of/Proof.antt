@@ -11,7 +11,8 @@ number-of-spec =
     tie.close
     (tie.spec
     (λ c. search needs) (λ c. search needs) (λ c. search needs) (λ c. search needs) (λ c. search needs) (λ c. search needs)
-    (λ c. search needs) (λ c. search needs) (λ c. search needs) (λ c. search needs) (λ c. search needs)
+    (λ c. search needs) (λ c. search needs) (λ c. search needs) (λ c. search needs) (λ c. search needs) (λ c. search needs)
+    (λ c. search needs) (λ c. search needs)
     (λ c. (sym (ap numberOf (c .enum-told .given .1)), lit< tt))
     (λ c. (sym (ap numberOf (c .enum-told2 .given .1)), lit< tt))
     (λ c. (sym (ap numberOf (c .enum-told3 .given .1)), lit< tt))
@@ -22,4 +23,7 @@ number-of-spec =
     (λ c. (sym (ap numberOf (c .enum-told8 .given .1)), lit< tt))
     (λ c. (sym (ap numberOf (c .enum-told9 .given .1)), lit< tt))
     (λ c. (sym (ap numberOf (c .enum-told10 .given .1)), lit< tt))
-    (λ c. (sym (ap numberOf (c .enum-told11 .given .1)), lit< tt)))
+    (λ c. (sym (ap numberOf (c .enum-told11 .given .1)), lit< tt))
+    (λ c. (sym (ap numberOf (c .enum-told12 .given .1)), lit< tt))
+    (λ c. (sym (ap numberOf (c .enum-told13 .given .1)), lit< tt))
+    (λ c. (sym (ap numberOf (c .enum-told14 .given .1)), lit< tt)))

@@ -10,7 +10,8 @@ place-of-spec =
     tie.close
     (tie.spec
     (λ c. search needs) (λ c. search needs) (λ c. search needs) (λ c. search needs) (λ c. search needs) (λ c. search needs)
-    (λ c. search needs) (λ c. search needs) (λ c. search needs) (λ c. search needs) (λ c. search needs)
+    (λ c. search needs) (λ c. search needs) (λ c. search needs) (λ c. search needs) (λ c. search needs) (λ c. search needs)
+    (λ c. search needs) (λ c. search needs)
     (λ c. sym (ap placeOf (c .enum-told .given .1)))
     (λ c. sym (ap placeOf (c .enum-told2 .given .1)))
     (λ c. sym (ap placeOf (c .enum-told3 .given .1)))
@@ -21,4 +22,7 @@ place-of-spec =
     (λ c. sym (ap placeOf (c .before .refusal5 .given .1)))
     (λ c. sym (ap placeOf (c .before .refusal6 .given .1)))
     (λ c. sym (ap placeOf (c .enum-told4 .given .1)))
-    (λ c. sym (ap placeOf (c .enum-told5 .given .1))))
+    (λ c. sym (ap placeOf (c .enum-told5 .given .1)))
+    (λ c. sym (ap placeOf (c .enum-told6 .given .1)))
+    (λ c. sym (ap placeOf (c .enum-told7 .given .1)))
+    (λ c. sym (ap placeOf (c .enum-told8 .given .1))))

@@ -1,0 +1,49 @@
+-- Counting the setups that an edge permits, where the places are filled. Assumes nothing.
+use Prim.Native.Nat.{ℕ, _+_, _*_, _/_, _%_, _^_, _≤_, _<_}
+use mathlib.Core.Path.{_≡_, sym, ap, _∙_}
+use mathlib.Core.List.{List}
+use native.Mathlib.Omega.{arith}
+use lib.ListN.{length}
+use Rattle.words.specs.Words.{wordAt}
+use Rattle.words.proofs.Cases.{less, same, more, tri}
+use Rattle.diagram.specs.Format.{Words, height}
+use Rattle.diagram.specs.Meaning.{under}
+use Rattle.diagram.specs.Count.{countBelow, place}
+use Rattle.diagram.specs.Reading.{Within, edgeCount}
+use Rattle.diagram.proofs.Counts.{count-edge}
+use Rattle.counting.specs.Inner.{Ready, Filled}
+use Rattle.counting.proofs.Places.{Countable, countable}
+
+module _ (t s : List ℕ) (k : ℕ) (F : Filled t s k) where
+  abbrev W : Within t k
+  W = F .ready .within
+
+  pub own-room : 8 * k + 8 ≤ length t
+  own-room = omega (arith, W .inside, W .holds .long)
+
+  -- a smaller node's places are filled too
+  pub filled-below : (j : ℕ) → j ≤ k → Filled t s j
+  filled-below j l = record {
+    ready = record {
+      within = record { settings = W .settings; nodes = W .nodes; holds = W .holds; inside = omega (arith, W .inside) };
+      room = omega (arith, F .ready .room);
+      places = λ i q. F .ready .places i (omega arith);
+    };
+    own = elim (tri j k) [ less i ↦ F .ready .places j i | same i ↦ rw i (F .own) | more i ↦ absurd (omega arith) ];
+  }
+
+-- edge e from height h to node v, of height g
+module _ (t s : List ℕ) (e h v g : ℕ) (F : Filled t s (e / 2)) (gap : height (wordAt t) (e / 2) ≤ h) (few : h ≤ 63) (v-is : v ≡ e / 2) (g-is : g ≡ height (wordAt t) v) where
+  abbrev w : Words
+  w = wordAt t
+
+  height-is : g ≡ height w (e / 2)
+  height-is = g-is ∙ ap (height w) v-is
+
+  pub under-countable : Countable s e g h
+  under-countable = countable w s e g h (F .ready .room) (F .own) height-is (omega (arith, height-is)) few
+
+  pub under-counted : (c : ℕ) → c ≡ edgeCount (e % 2) g h (wordAt s (e / 2)) → c ≡ countBelow (under w e) (2 ^ h)
+  under-counted c q =
+      let W = F .ready .within in
+      q ∙ rw (height-is, F .own) (sym (count-edge w (W .settings) (W .nodes) (W .holds .ordered) e h (W .inside) gap))

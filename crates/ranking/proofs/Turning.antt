@@ -1,0 +1,66 @@
+-- A setup leaves a node: what it passes over, and what is left, in the terms of the code. Assumes nothing.
+use Prim.Native.Nat.{ℕ, zero, suc, _+_, _-_, _*_, _/_, _%_, _^_, _≤_, _<_}
+use mathlib.Core.Path.{_≡_, sym, ap, _∙_}
+use mathlib.Core.List.{List}
+use native.Mathlib.Nat.{two-pow-succ, zero-add}
+use native.Mathlib.Omega.{arith}
+use Rattle.words.specs.Words.{wordAt}
+use Rattle.diagram.specs.Format.{Words, height, thenEdge, elseEdge}
+use Rattle.diagram.specs.Meaning.{plain, under}
+use Rattle.diagram.specs.Count.{countBelow}
+use Rattle.diagram.specs.Reading.{IsRecord, Within}
+use Rattle.diagram.proofs.Paths.{Lower}
+use Rattle.diagram.proofs.Inside.{inside-tall, high-lower, low-lower}
+use Rattle.diagram.proofs.Counts.{below-else, below-then}
+use Rattle.counting.specs.Inner.{Filled}
+use Rattle.counting.proofs.Places.{one-shl}
+use Rattle.counting.proofs.Under.{filled-below}
+use Rattle.ranking.specs.Inner.{Turns}
+
+module _ (t s : List ℕ) (k y h a b : ℕ) (p : 0 < k) (F : Filled t s k) (l : y < 2 ^ height (wordAt t) k) (r : IsRecord (wordAt t) k h a b) where
+  abbrev w : Words
+  w = wordAt t
+
+  W : Within t k
+  W = F .ready .within
+
+  pub tall : 0 < h
+  tall = inside-tall t k h a b p W r
+
+  half : 1 * 2 ^ (h - 1) % 18446744073709551616 ≡ 2 ^ (h - 1)
+  half = one-shl (h - 1) (omega (arith, r .low))
+
+  low-node : Lower w k b
+  low-node = low-lower t k h a b p W r
+
+  -- the else-edge can be counted
+  pub low-opens : Filled t s (b / 2) × (height w (b / 2) ≤ h - 1) × (h - 1 ≤ 63)
+  low-opens = (filled-below t s k F (b / 2) (omega (arith, low-node .node)), omega (arith, low-node .low, r .height-is), omega (arith, r .low))
+
+  -- the settings left are those below the node's own
+  goes : (e c rest : ℕ) → Lower w k e → rest < 2 ^ (h - 1) → countBelow (plain w k) y ≡ c + countBelow (under w e) rest → Turns w k y e c rest
+  goes e c rest o i q = record { node = o .node; low = o .low; rest-fits = rw (← r .height-is) i; sum = q }
+
+  pub turn-low : y < 1 * 2 ^ (h - 1) % 18446744073709551616 → Turns w k y b 0 y
+  turn-low i =
+      let j : y < 2 ^ (h - 1) = rw half at i in
+      goes b 0 y low-node j (rw (r .else-is) (all k p (W .inside) (rw (← r .height-is) j) ∙ sym (zero-add (countBelow (under w (elseEdge w k)) y))))
+    where
+      all : (k : ℕ) → 0 < k → k ≤ W .nodes → y < 2 ^ (height w k - 1) → countBelow (plain w k) y ≡ countBelow (under w (elseEdge w k)) y
+      all zero p m j = absurd (omega arith)
+      all (suc k) p m j = below-else w (W .settings) (W .nodes) (W .holds .ordered) k y m (omega arith)
+
+  pub turn-high : 1 * 2 ^ (h - 1) % 18446744073709551616 ≤ y → (c : ℕ) → c ≡ countBelow (under w b) (2 ^ (h - 1)) → Turns w k y a c (y - 1 * 2 ^ (h - 1) % 18446744073709551616)
+  turn-high i c q =
+      let j : 2 ^ (h - 1) ≤ y = rw half at i in
+      let top : suc (h - 1) ≡ height w k = omega (arith, tall, r .height-is) in
+      let u : y < 2 ^ (h - 1) + 2 ^ (h - 1) = omega (arith, two-pow-succ (h - 1), ap (λ (g : ℕ). 2 ^ g) top) in
+      let v : 2 ^ (h - 1) + (y - 2 ^ (h - 1)) ≡ y = omega arith in
+      rw half
+      (goes a c (y - 2 ^ (h - 1)) (high-lower t k h a b p W r) (omega arith)
+      (ap (countBelow (plain w k)) (sym v) ∙ rw (q, r .height-is, r .then-is, r .else-is) (all k p (W .inside) (y - 2 ^ (height w k - 1)) (rw (← r .height-is) (omega arith)))))
+    where
+      all : (k : ℕ) → 0 < k → k ≤ W .nodes → (x : ℕ) → x ≤ 2 ^ (height w k - 1)
+          → countBelow (plain w k) (2 ^ (height w k - 1) + x) ≡ countBelow (under w (elseEdge w k)) (2 ^ (height w k - 1)) + countBelow (under w (thenEdge w k)) x
+      all zero p m x j = absurd (omega arith)
+      all (suc k) p m x j = below-then w (W .settings) (W .nodes) (W .holds .ordered) k x m j

@@ -1,0 +1,72 @@
+-- `ranking::smaller::rank_at` meets its contract. Its measure is the height of its node. Assumes nothing.
+use Prim.Native.Nat.{ℕ}
+use mathlib.Core.Path.{sym, ap, _∙_}
+use native.Mathlib.Omega.{arith}
+use borrow.Author.Needs.{needs}
+use borrow.Fn.PlainCycle.{Measures}
+use Rattle.words.specs.Words.{wordAt}
+use Rattle.diagram.specs.Format.{height}
+use Rattle.ranking.proofs.Below.{none-below, node-room, edge-opens, some-block, node-opens, gap-opens, edge-sum, turned, falls, node-sum}
+use Rattle.ranking.proofs.smaller.rank_at.Reads as rank-at
+use Rattle.ranking.proofs.smaller.rank_at.Kinds as rank-at-kinds
+use Rattle.ranking.proofs.smaller.+rank_at.Lts-rank_at as rank-at-lts
+use Rattle.counting.proofs.count_under.Reads as count-under-reads
+use Rattle.diagram.proofs.Edge.node.Reads as node-reads
+use Rattle.diagram.proofs.height_at.Reads as height-at-reads
+use Rattle.ranking.proofs.smaller.across_gap.Reads as across-gap-reads
+use Rattle.ranking.proofs.smaller.turn_at.Reads as turn-at-reads
+use Rattle.ranking.proofs.smaller.+rank_at.{statement}
+use Rattle.ranking.proofs.smaller.+rank_at.Tie.{close}
+
+abbrev μ-rank-at : Measures 2 rank-at-kinds.ps ℕ
+μ-rank-at κs a = height (wordAt (a .0 .now)) (a .1 .1 .0 .0)
+
+pub +rank-at-spec : {M : Type 1} → statement M
++rank-at-spec =
+    close μ-rank-at
+    (λ t. rank-at-lts.spec (_, turn-at-reads.Learnt, _, node-reads.Learnt, _, height-at-reads.Learnt, _, count-under-reads.Learnt, _, rank-at.Post, _, across-gap-reads.Learnt) _ rank-at.Post
+    -- the sink
+    (λ c. none-below _ _ _ (c .if1 .taken) (c .before .before .before .before .pre .1 .1))
+    -- the turn
+    (λ c κs. let p = c .before .before .before .before .pre .1 in (omega arith, p .0, p .1))
+    (λ c κs. search needs)
+    -- its node's height
+    (λ c κs.
+    let a = c .before in
+    let p = a .before .before .before .before .before .pre .1 in
+    node-room _ _ _ _ 0 (turned _ _ _ _ _ _ _ (p .0) (a .turn-at .ensures)) (c .node .ensures))
+    -- its edge's count
+    (λ c κs.
+    let a = c .before .before in
+    let p = a .before .before .before .before .before .pre .1 in
+    edge-opens _ _ _ _ 0 (turned _ _ _ _ _ _ _ (p .0) (a .turn-at .ensures)) (c .before .node .ensures) _ (c .height-at .ensures .0))
+    (λ c. search needs)
+    (λ c.
+    let a = c .before .before .before .before in
+    let p = a .before .before .before .before .before .pre .1 in
+    some-block _ _ _ _ 0 (turned _ _ _ _ _ _ _ (p .0) (a .turn-at .ensures)) (c .before .before .before .node .ensures) _ (c .before .before .height-at .ensures .0))
+    -- the call on its node
+    (λ c κs.
+    let a = c .before .before .before .before in
+    let p = a .before .before .before .before .before .pre in
+    let o = node-opens _ _ _ _ _ (turned _ _ _ _ _ _ _ (p .1 .0) (a .turn-at .ensures)) (c .before .before .before .node .ensures) _ (c .before .before .height-at .ensures .0) in
+    (falls _ _ _ _ _ _ _ (p .1 .0) (a .turn-at .ensures) _ _ (c .before .before .before .node .ensures) (p .0), o))
+    -- across the gap
+    (λ c κs.
+    let b = c .before .before in
+    let a = b .before .before .before in
+    let p = a .before .before .before .before .before .pre .1 in
+    gap-opens _ _ _ _ _ (turned _ _ _ _ _ _ _ (p .0) (a .turn-at .ensures)) (b .before .before .node .ensures) _ (b .before .height-at .ensures .0) _ _ (b .count-under .ensures) (c .rank-at .ensures))
+    -- the sum
+    (λ c.
+    let b = c .before .before .before .before .before in
+    let a = b .before .before .before in
+    let p = a .before .before .before .before .before .pre .1 in
+    let q = edge-sum _ _ _ _ _ (turned _ _ _ _ _ _ _ (p .0) (a .turn-at .ensures)) (b .before .before .node .ensures) _ (b .before .height-at .ensures .0) _ _ (b .count-under .ensures) (c .before .before .before .rank-at .ensures) _ (c .before .before .across-gap .ensures) in
+    record { fits = node-sum _ _ _ _ _ _ _ (p .0) (a .turn-at .ensures) _ q (p .1) .1 })
+    (λ c.
+    let b = c .before .before .before .before .before in
+    let a = b .before .before .before in
+    let p = a .before .before .before .before .before .pre .1 in
+    let q = edge-sum _ _ _ _ _ (turned _ _ _ _ _ _ _ (p .0) (a .turn-at .ensures)) (b .before .before .node .ensures) _ (b .before .height-at .ensures .0) _ _ (b .count-under .ensures) (c .before .before .before .rank-at .ensures) _ (c .before .before .across-gap .ensures) in
+    node-sum _ _ _ _ _ _ _ (p .0) (a .turn-at .ensures) _ q (p .1) .0))

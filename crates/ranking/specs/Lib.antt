@@ -1,0 +1,4 @@
+-- What ranking and unranking answer.
+pub mod Answers
+pub mod Operations
+pub mod Inner

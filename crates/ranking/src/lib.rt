@@ -1,0 +1,79 @@
+// Ranking and unranking: a permitted setup's number, and the setup of a number. None has a `requires`.
+mod descent;
+mod smaller;
+
+ghost use mathlib.Core.Path.{_≡_};
+ghost use Prim.Native.Nat.{_+_, _/_, _<_, _^_};
+ghost use mathlib.Core.Option.{some};
+ghost use Rattle.words.specs.Words.{wordAt};
+ghost use Rattle.diagram.specs.Meaning.{under};
+ghost use Rattle.checking.specs.Operations.{sheetAfter};
+ghost use Rattle.ranking.specs.Answers.{rankedAs, unrankedAs};
+ghost use Rattle.ranking.specs.Operations.{rankSetup, ranking, unrankSetup, unranking};
+ghost use Rattle.ranking.specs.Inner.{Opens};
+use checking::Checked;
+use diagram::Edge;
+use diagram::Rank;
+use diagram::Setup;
+use rules::Refusal;
+
+pub enum Ranked {
+    At(Rank),
+    Refused(Refusal),
+}
+
+pub enum Unranked {
+    To(Setup),
+    Refused(Refusal),
+}
+
+// Rules 12 and 13, and the rank of setup x among those of n settings that edge e permits.
+fn rank_setup(table: &[u8], sheet: &[u8], n: u64, e: Edge, x: Setup) -> Ranked
+    requires { ⌜ Opens (now table) (now sheet) (e .value) n ⌝ }
+    ensures { λ r. ⌜ rankedAs r ≡ rankSetup n (under (wordAt (now (table .entry))) (e .value)) (x .0) ⌝ }
+{
+    if 1 << n <= x.0 {
+        return Ranked::Refused(Refusal::SetupRange);
+    }
+    if !checking::permitted_under(table, e, x) {
+        return Ranked::Refused(Refusal::Unpermitted);
+    }
+    Ranked::At(smaller::rank_under(table, sheet, e, x))
+}
+
+// Rule 14, and the setup of rank r among those of n settings that edge e permits.
+fn unrank_setup(table: &[u8], sheet: &[u8], n: u64, e: Edge, r: Rank) -> Unranked
+    requires { ⌜ Opens (now table) (now sheet) (e .value) n ⌝ }
+    ensures { λ a. ⌜ unrankedAs a ≡ unrankSetup n (under (wordAt (now (table .entry))) (e .value)) (r .0) ⌝ }
+{
+    if counting::count_under(table, sheet, e, n) <= r.0 {
+        return Unranked::Refused(Refusal::RankRange);
+    }
+    Unranked::To(descent::descend(table, sheet, n, e, r))
+}
+
+// Ranks a setup: how many permitted setups are smaller.
+pub fn rank(table: &[u8], x: Setup, sheet: &mut [u8]) -> Ranked
+    ensures { λ r. ⌜ (rankedAs r ≡ ranking (now (table .entry)) (x .0) (now (sheet .entry)))
+        × (now (sheet .exit) ≡ sheetAfter (now (table .entry)) (now (sheet .entry))) ⌝ }
+{
+    let checked = checking::check(table, sheet);
+    let Checked::Table(_) = checked else {
+        return Ranked::Refused(checking::refusal_of(checked));
+    };
+    let header = diagram::header_of(table);
+    rank_setup(table, sheet, header.settings, header.root, x)
+}
+
+// Unranks a number: the permitted setup with that many smaller ones.
+pub fn unrank(table: &[u8], r: Rank, sheet: &mut [u8]) -> Unranked
+    ensures { λ a. ⌜ (unrankedAs a ≡ unranking (now (table .entry)) (r .0) (now (sheet .entry)))
+        × (now (sheet .exit) ≡ sheetAfter (now (table .entry)) (now (sheet .entry))) ⌝ }
+{
+    let checked = checking::check(table, sheet);
+    let Checked::Table(_) = checked else {
+        return Unranked::Refused(checking::refusal_of(checked));
+    };
+    let header = diagram::header_of(table);
+    unrank_setup(table, sheet, header.settings, header.root, r)
+}
