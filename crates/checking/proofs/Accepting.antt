@@ -22,7 +22,7 @@ use Rattle.checking.specs.declared.Checked.the-variants.{Table}
 use Rattle.checking.specs.declared.Shape.{Shape}
 use Rattle.checking.specs.Answers.{checkedAs}
 use Rattle.checking.specs.Operations.{checking, counting, testSetup, testing, sheetBy, sheetAfter}
-use Rattle.counting.specs.Inner.{Filled}
+use Rattle.counting.specs.Inner.{Filled, Opens}
 use Rattle.counting.proofs.Places.{one-shl, place-fits}
 
 module _ (t s out : List ℕ) (a : Checked) (is : (checkedAs a ≡ checking t s) × (out ≡ sheetAfter t s)) where
@@ -73,9 +73,6 @@ module _ (t s out : List ℕ) (a : Checked) (is : (checkedAs a ≡ checking t s)
       pub root-within : Within t (e / 2)
       root-within = record { settings = n; nodes = N; holds = table-holds; inside = root-inside }
 
-      pub root-low : height w (e / 2) ≤ n
-      root-low = height-le-settings w n N (table-holds .ordered) (e / 2) root-inside
-
       room : 8 * (N + 1) ≤ length s
       room = omega (arith, accepted .1, nodes-is)
 
@@ -89,7 +86,7 @@ module _ (t s out : List ℕ) (a : Checked) (is : (checkedAs a ≡ checking t s)
           ap (λ (x : List ℕ). wordAt x k) filled
           ∙ words-read (place w) (N + 1) s k (omega arith) (place-fits w k (omega (arith, height-le-settings w n N (table-holds .ordered) k l, h .few-settings)))
 
-      pub root-filled : Filled t out (e / 2)
+      root-filled : Filled t out (e / 2)
       root-filled = record {
         ready = record {
           within = root-within;
@@ -98,6 +95,9 @@ module _ (t s out : List ℕ) (a : Checked) (is : (checkedAs a ≡ checking t s)
         };
         own = holds-place (e / 2) root-inside;
       }
+
+      pub root-opens : Opens t out e n
+      root-opens = record { filled = root-filled; low = height-le-settings w n N (table-holds .ordered) (e / 2) root-inside; few = h .few-settings }
 
       -- an answer by n and the root edge is the operation's
       pub answered : {B : Type 0} (f : ℕ → (ℕ → Bool) → Answer B) (b : Answer B) → b ≡ f n (under w e) → b ≡ andThen (checking t s) (λ _. f (settings w) (permitted w))

@@ -1,7 +1,7 @@
 // The operations: checking, counting and testing. None has a `requires`: every table, sheet and setup gets its answer or its refusal.
 mod walk;
-pub use walk::permitted_under;
 
+pub use walk::permitted_under;
 ghost use mathlib.Core.Path.{_≡_};
 ghost use Prim.Native.Nat.{_+_, _*_, _≤_};
 ghost use lib.ListN.{length};

@@ -11,7 +11,7 @@ use Rattle.diagram.specs.Meaning.{under}
 use Rattle.diagram.specs.Count.{countBelow, place}
 use Rattle.diagram.specs.Reading.{Within, edgeCount}
 use Rattle.diagram.proofs.Counts.{count-edge}
-use Rattle.counting.specs.Inner.{Ready, Filled}
+use Rattle.counting.specs.Inner.{Ready, Filled, Opens}
 use Rattle.counting.proofs.Places.{Countable, countable}
 
 module _ (t s : List ℕ) (k : ℕ) (F : Filled t s k) where
@@ -33,7 +33,7 @@ module _ (t s : List ℕ) (k : ℕ) (F : Filled t s k) where
   }
 
 -- edge e from height h to node v, of height g
-module _ (t s : List ℕ) (e h v g : ℕ) (F : Filled t s (e / 2)) (gap : height (wordAt t) (e / 2) ≤ h) (few : h ≤ 63) (v-is : v ≡ e / 2) (g-is : g ≡ height (wordAt t) v) where
+module _ (t s : List ℕ) (e h v g : ℕ) (O : Opens t s e h) (v-is : v ≡ e / 2) (g-is : g ≡ height (wordAt t) v) where
   abbrev w : Words
   w = wordAt t
 
@@ -41,9 +41,9 @@ module _ (t s : List ℕ) (e h v g : ℕ) (F : Filled t s (e / 2)) (gap : height
   height-is = g-is ∙ ap (height w) v-is
 
   pub under-countable : Countable s e g h
-  under-countable = countable w s e g h (F .ready .room) (F .own) height-is (omega (arith, height-is)) few
+  under-countable = countable w s e g h (O .filled .ready .room) (O .filled .own) height-is (omega (arith, height-is, O .low)) (O .few)
 
   pub under-counted : (c : ℕ) → c ≡ edgeCount (e % 2) g h (wordAt s (e / 2)) → c ≡ countBelow (under w e) (2 ^ h)
   under-counted c q =
-      let W = F .ready .within in
-      q ∙ rw (height-is, F .own) (sym (count-edge w (W .settings) (W .nodes) (W .holds .ordered) e h (W .inside) gap))
+      let W = O .filled .ready .within in
+      q ∙ rw (height-is, O .filled .own) (sym (count-edge w (W .settings) (W .nodes) (W .holds .ordered) e h (W .inside) (O .low)))

@@ -1,12 +1,12 @@
 -- What the functions that fill the sheet know of it and of the marks of rule 9: for inner contracts only. Assumes nothing.
-use Prim.Native.Nat.{ℕ, suc, _+_, _-_, _*_, _<_, _≤_}
+use Prim.Native.Nat.{ℕ, suc, _+_, _-_, _*_, _/_, _<_, _≤_}
 use mathlib.Core.Path.{_≡_}
 use mathlib.Core.Bool.{cond}
 use mathlib.Core.List.{List}
 use lib.Dec.{eqb}
 use lib.ListN.{length, getD}
 use Rattle.words.specs.Words.{wordAt}
-use Rattle.diagram.specs.Format.{Words}
+use Rattle.diagram.specs.Format.{Words, height}
 use Rattle.diagram.specs.Count.{indicator, place}
 use Rattle.diagram.specs.Answer.{Answer, refusal, pass, each}
 use Rattle.diagram.specs.Rules.{named}
@@ -26,6 +26,12 @@ pub record Ready (table sheet : List ℕ) (k : ℕ) : Type 0 where
 pub record Filled (table sheet : List ℕ) (k : ℕ) : Type 0 where
   pub ready : Ready table sheet k
   pub own : wordAt sheet k ≡ place (wordAt table) k
+
+-- edge e, from height h down, can be counted: the places of its node and of those below are filled
+pub record Opens (table sheet : List ℕ) (e h : ℕ) : Type 0 where
+  pub filled : Filled table sheet (e / 2)
+  pub low : height (wordAt table) (e / 2) ≤ h
+  pub few : h ≤ 63
 
 -- a mark for each node that some record of 1 to m names
 abbrev pub Marked : List ℕ → ℕ → Words → Type 0

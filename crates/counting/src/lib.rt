@@ -3,14 +3,13 @@ ghost use mathlib.Core.Path.{_≡_};
 ghost use Prim.Native.Nat.{_+_, _-_, _*_, _/_, _%_, _≤_, _<_, _^_};
 ghost use lib.ListN.{length, set};
 ghost use Rattle.words.specs.Words.{wordAt, putWord, wordsOver};
-ghost use Rattle.diagram.specs.Format.{height};
 ghost use Rattle.diagram.specs.Meaning.{under};
 ghost use Rattle.diagram.specs.Count.{countBelow, place};
 ghost use Rattle.diagram.specs.Rules.{checkNames};
 ghost use Rattle.diagram.specs.Ordered.{HasDiagram};
 ghost use Rattle.diagram.specs.Reading.{IsRecord, edgeCount};
 ghost use Rattle.rules.specs.Refusals.{verdictAs};
-ghost use Rattle.counting.specs.Inner.{Ready, Filled, Marked, checkMarks};
+ghost use Rattle.counting.specs.Inner.{Ready, Opens, Marked, checkMarks};
 use diagram::Edge;
 use diagram::Node;
 use diagram::Record;
@@ -31,7 +30,7 @@ pub fn count_edge(sheet: &[u8], e: Edge, g: u64, h: u64) -> u64
 
 // How many of the setups of h settings edge e permits.
 pub fn count_under(table: &[u8], sheet: &[u8], e: Edge, h: u64) -> u64
-    requires { ⌜ Filled (now table) (now sheet) (e .value / 2) × (height (wordAt (now table)) (e .value / 2) ≤ h) × (h ≤ 63) ⌝ }
+    requires { ⌜ Opens (now table) (now sheet) (e .value) h ⌝ }
     ensures { λ r. ⌜ r ≡ countBelow (under (wordAt (now (table .entry))) (e .value)) (2 ^ h) ⌝ }
 {
     let g = diagram::height_at(table, e.node());

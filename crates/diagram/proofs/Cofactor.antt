@@ -4,10 +4,11 @@ use mathlib.Core.Path.{_≡_, refl, sym, ap, subst, _∙_}
 use mathlib.Core.Bool.{Bool, true, false, not, cond, Bool·not-not}
 use native.Mathlib.Nat.{mod-eq-of-lt, add-comm}
 use native.Mathlib.Omega.{arith}
-use lib.Dec.{ltb}
-use borrow.Author.Tests.{ltb-true, ltb-false}
+use lib.Dec.{eqb, ltb}
+use borrow.Author.Tests.{ltb-true, ltb-false, lt-ltb, le-ltb}
 use Rattle.diagram.specs.Format.{Words, height}
 use Rattle.diagram.specs.Meaning.{flip, plain, under}
+use Rattle.diagram.specs.Count.{indicator}
 use Rattle.diagram.specs.Ordered.{Ordered}
 use Rattle.diagram.specs.Reading.{turn, cofactor}
 use Rattle.diagram.proofs.Bits.{withBit, with-mod}
@@ -35,10 +36,31 @@ turn-under w (suc f) e x = go (e % 2) refl
     go (suc (suc d)) q = absurd (omega arith)
 
 -- a node of some height is not the sink
-no-sink : (w : Words) (k : ℕ) → 0 < height w k → 0 < k
+pub no-sink : (w : Words) (k : ℕ) → 0 < height w k → 0 < k
 unfolding height
 no-sink w zero l = l
 no-sink w (suc k) l = omega arith
+
+-- the flag of an edge, as a number
+flag-is : (f : ℕ) → f < 2 → indicator (eqb f 1) ≡ f
+unfolding indicator
+flag-is zero l = refl
+flag-is (suc zero) l = refl
+flag-is (suc (suc f)) l = absurd (omega arith)
+
+-- the cofactors of edge e as code finds them, where node v is its node, of height g
+module _ (w : Words) (e h v g : ℕ) (v-is : v ≡ e / 2) (g-is : g ≡ height w v) where
+  at : g ≡ height w (e / 2)
+  at = g-is ∙ ap (height w) v-is
+
+  pub passes-below : g < h → (b : Bool) → e ≡ cofactor w h b e
+  unfolding cofactor
+  passes-below l b = rw (lt-ltb (height w (e / 2)) h (omega (arith, at)))
+
+  pub goes-on : h ≤ g → (b f : Bool) (a c : ℕ) → a ≡ side w b v → f ≡ eqb (e % 2) 1 → c ≡ turn (indicator f) a → c ≡ cofactor w h b e
+  unfolding cofactor
+  goes-on l b f a c a-is f-is q =
+      q ∙ rw (le-ltb (height w (e / 2)) h (omega (arith, at)), f-is, flag-is (e % 2) (omega arith), a-is, v-is)
 
 module _ (w : Words) (n N : ℕ) (D : Ordered w n N) (e h : ℕ) (inside : e / 2 ≤ N) (low : height w (e / 2) ≤ h) (some : 0 < h) where
   -- a cofactor leads to no greater node, below height h

@@ -58,7 +58,9 @@ impl Edge {
     {
         if over {
             let e = self.value;
-            return Edge { value: 2 * (e / 2) + (1 - e % 2) };
+            return Edge {
+                value: 2 * (e / 2) + (1 - e % 2),
+            };
         }
         self
     }

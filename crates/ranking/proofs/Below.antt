@@ -14,7 +14,7 @@ use Rattle.diagram.specs.Reading.{opposite, Within}
 use Rattle.diagram.proofs.CountLaws.{count-le}
 use Rattle.diagram.proofs.Paths.{height-le-settings}
 use Rattle.diagram.proofs.Counts.{below-edge}
-use Rattle.counting.specs.Inner.{Filled}
+use Rattle.counting.specs.Inner.{Filled, Opens}
 use Rattle.counting.proofs.Places.{one-shl}
 use Rattle.counting.proofs.Under.{own-room, filled-below}
 use Rattle.ranking.specs.Inner.{Turns}
@@ -41,8 +41,8 @@ module _ (t s : List ℕ) (e v y : ℕ) (F : Filled t s (e / 2)) (v-is : v ≡ e
         let W = node-filled .ready .within in
         omega (arith, g-is, height-le-settings w (W .settings) (W .nodes) (W .holds .ordered) v (W .inside), W .holds .few-settings)
 
-    pub edge-opens : Filled t s (e / 2) × (height w (e / 2) ≤ g) × (g ≤ 63)
-    edge-opens = (F, omega (arith, g-is, ap (height w) v-is), few)
+    pub edge-opens : Opens t s e g
+    edge-opens = record { filled = F; low = omega (arith, g-is, ap (height w) v-is); few = few }
 
     pub some-block : 0 < 1 * 2 ^ g % 18446744073709551616
     some-block = rw (one-shl g few) (pow-pos g)

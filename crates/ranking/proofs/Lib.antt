@@ -2,3 +2,6 @@
 pub mod Gap
 pub mod Turning
 pub mod Below
+pub mod Choosing
+pub mod Opening
+pub mod Answering

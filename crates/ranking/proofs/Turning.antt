@@ -12,7 +12,7 @@ use Rattle.diagram.specs.Reading.{IsRecord, Within}
 use Rattle.diagram.proofs.Paths.{Lower}
 use Rattle.diagram.proofs.Inside.{inside-tall, high-lower, low-lower}
 use Rattle.diagram.proofs.Counts.{below-else, below-then}
-use Rattle.counting.specs.Inner.{Filled}
+use Rattle.counting.specs.Inner.{Filled, Opens}
 use Rattle.counting.proofs.Places.{one-shl}
 use Rattle.counting.proofs.Under.{filled-below}
 use Rattle.ranking.specs.Inner.{Turns}
@@ -34,8 +34,12 @@ module _ (t s : List ℕ) (k y h a b : ℕ) (p : 0 < k) (F : Filled t s k) (l : 
   low-node = low-lower t k h a b p W r
 
   -- the else-edge can be counted
-  pub low-opens : Filled t s (b / 2) × (height w (b / 2) ≤ h - 1) × (h - 1 ≤ 63)
-  low-opens = (filled-below t s k F (b / 2) (omega (arith, low-node .node)), omega (arith, low-node .low, r .height-is), omega (arith, r .low))
+  pub low-opens : Opens t s b (h - 1)
+  low-opens = record {
+    filled = filled-below t s k F (b / 2) (omega (arith, low-node .node));
+    low = omega (arith, low-node .low, r .height-is);
+    few = omega (arith, r .low);
+  }
 
   -- the settings left are those below the node's own
   goes : (e c rest : ℕ) → Lower w k e → rest < 2 ^ (h - 1) → countBelow (plain w k) y ≡ c + countBelow (under w e) rest → Turns w k y e c rest

@@ -1,18 +1,9 @@
 -- What the steps of ranking and unranking know: for inner contracts only. Assumes nothing.
 use Prim.Native.Nat.{ℕ, suc, _+_, _-_, _*_, _/_, _%_, _^_, _≤_, _<_}
 use mathlib.Core.Path.{_≡_}
-use mathlib.Core.List.{List}
-use Rattle.words.specs.Words.{wordAt}
 use Rattle.diagram.specs.Format.{Words, height}
 use Rattle.diagram.specs.Meaning.{plain, under}
 use Rattle.diagram.specs.Count.{countBelow}
-use Rattle.counting.specs.Inner.{Filled}
-
--- edge e, from height h or lower, with the places of its node and of those below filled
-pub record Opens (table sheet : List ℕ) (e h : ℕ) : Type 0 where
-  pub filled : Filled table sheet (e / 2)
-  pub low : height (wordAt table) (e / 2) ≤ h
-  pub few : h ≤ 63
 
 -- of the setups below y under a plain edge to node k: `passed` of them in the half that is passed over, and the others under edge e, below `rest`
 pub record Turns (w : Words) (k y e passed rest : ℕ) : Type 0 where

@@ -12,12 +12,12 @@ use Rattle.diagram.specs.Answer.{Answer, value, refusal, andThen}
 use Rattle.checking.specs.Operations.{checking}
 
 -- rules 12 and 13, and the rank of setup x of n settings: how many smaller ones P permits
-unfoldable pub rankSetup : ℕ → (ℕ → Bool) → ℕ → Answer ℕ
-rankSetup n P x = cond (leb (2 ^ n) x) (refusal 12 0) (cond (P x) (value (countBelow P x)) (refusal 13 0))
+unfoldable pub rankSetup : ℕ → ℕ → (ℕ → Bool) → Answer ℕ
+rankSetup x n P = cond (leb (2 ^ n) x) (refusal 12 0) (cond (P x) (value (countBelow P x)) (refusal 13 0))
 
 -- ranking: the rank of setup x (its number in lexicographic order), after the table's own refusals
 unfoldable pub ranking : List ℕ → ℕ → List ℕ → Answer ℕ
-ranking table x sheet = andThen (checking table sheet) (λ _. rankSetup (settings (wordAt table)) (permitted (wordAt table)) x)
+ranking table x sheet = andThen (checking table sheet) (λ _. rankSetup x (settings (wordAt table)) (permitted (wordAt table)))
 
 -- what was found, or rule 14
 unfoldable pub orTooHigh : Option ℕ → Answer ℕ
@@ -25,9 +25,9 @@ orTooHigh none = refusal 14 0
 orTooHigh (some x) = value x
 
 -- setup number r of n settings: the one that P permits with exactly r smaller ones that it permits; or rule 14
-unfoldable pub unrankSetup : ℕ → (ℕ → Bool) → ℕ → Answer ℕ
-unrankSetup n P r = orTooHigh (select P (2 ^ n) r)
+unfoldable pub unrankSetup : ℕ → ℕ → (ℕ → Bool) → Answer ℕ
+unrankSetup r n P = orTooHigh (select P (2 ^ n) r)
 
 -- unranking: the setup with rank r, after the table's own refusals
 unfoldable pub unranking : List ℕ → ℕ → List ℕ → Answer ℕ
-unranking table r sheet = andThen (checking table sheet) (λ _. unrankSetup (settings (wordAt table)) (permitted (wordAt table)) r)
+unranking table r sheet = andThen (checking table sheet) (λ _. unrankSetup r (settings (wordAt table)) (permitted (wordAt table)))

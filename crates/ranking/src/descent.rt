@@ -8,7 +8,7 @@ ghost use Rattle.diagram.specs.Format.{height};
 ghost use Rattle.diagram.specs.Meaning.{under};
 ghost use Rattle.diagram.specs.Count.{countBelow, select};
 ghost use Rattle.diagram.specs.Reading.{Within, cofactor};
-ghost use Rattle.ranking.specs.Inner.{Opens};
+ghost use Rattle.counting.specs.Inner.{Opens};
 use diagram::Edge;
 use diagram::Rank;
 use diagram::Setup;

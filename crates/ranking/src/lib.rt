@@ -10,7 +10,7 @@ ghost use Rattle.diagram.specs.Meaning.{under};
 ghost use Rattle.checking.specs.Operations.{sheetAfter};
 ghost use Rattle.ranking.specs.Answers.{rankedAs, unrankedAs};
 ghost use Rattle.ranking.specs.Operations.{rankSetup, ranking, unrankSetup, unranking};
-ghost use Rattle.ranking.specs.Inner.{Opens};
+ghost use Rattle.counting.specs.Inner.{Opens};
 use checking::Checked;
 use diagram::Edge;
 use diagram::Rank;
@@ -30,21 +30,21 @@ pub enum Unranked {
 // Rules 12 and 13, and the rank of setup x among those of n settings that edge e permits.
 fn rank_setup(table: &[u8], sheet: &[u8], n: u64, e: Edge, x: Setup) -> Ranked
     requires { ⌜ Opens (now table) (now sheet) (e .value) n ⌝ }
-    ensures { λ r. ⌜ rankedAs r ≡ rankSetup n (under (wordAt (now (table .entry))) (e .value)) (x .0) ⌝ }
+    ensures { λ r. ⌜ rankedAs r ≡ rankSetup (x .0) n (under (wordAt (now (table .entry))) (e .value)) ⌝ }
 {
     if 1 << n <= x.0 {
         return Ranked::Refused(Refusal::SetupRange);
     }
-    if !checking::permitted_under(table, e, x) {
-        return Ranked::Refused(Refusal::Unpermitted);
+    if checking::permitted_under(table, e, x) {
+        return Ranked::At(smaller::rank_under(table, sheet, e, x));
     }
-    Ranked::At(smaller::rank_under(table, sheet, e, x))
+    Ranked::Refused(Refusal::Unpermitted)
 }
 
 // Rule 14, and the setup of rank r among those of n settings that edge e permits.
 fn unrank_setup(table: &[u8], sheet: &[u8], n: u64, e: Edge, r: Rank) -> Unranked
     requires { ⌜ Opens (now table) (now sheet) (e .value) n ⌝ }
-    ensures { λ a. ⌜ unrankedAs a ≡ unrankSetup n (under (wordAt (now (table .entry))) (e .value)) (r .0) ⌝ }
+    ensures { λ a. ⌜ unrankedAs a ≡ unrankSetup (r .0) n (under (wordAt (now (table .entry))) (e .value)) ⌝ }
 {
     if counting::count_under(table, sheet, e, n) <= r.0 {
         return Unranked::Refused(Refusal::RankRange);

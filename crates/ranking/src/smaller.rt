@@ -7,7 +7,7 @@ ghost use Rattle.diagram.specs.Meaning.{plain, under};
 ghost use Rattle.diagram.specs.Count.{countBelow};
 ghost use Rattle.diagram.specs.Reading.{opposite};
 ghost use Rattle.counting.specs.Inner.{Filled};
-ghost use Rattle.ranking.specs.Inner.{Opens, Turns};
+ghost use Rattle.ranking.specs.Inner.{Turns};
 use diagram::Edge;
 use diagram::Node;
 use diagram::Rank;
@@ -78,8 +78,9 @@ pub fn rank_under(table: &[u8], sheet: &[u8], e: Edge, x: Setup) -> Rank
     requires { ⌜ Filled (now table) (now sheet) (e .value / 2) ⌝ }
     ensures { λ r. ⌜ r .0 ≡ countBelow (under (wordAt (now (table .entry))) (e .value)) (x .0) ⌝ }
 {
-    let g = diagram::height_at(table, e.node());
+    let node = e.node();
+    let g = diagram::height_at(table, node);
     let block = counting::count_under(table, sheet, e, g);
-    let inside = rank_at(table, sheet, e.node(), Setup(x.0 % (1 << g)));
+    let inside = rank_at(table, sheet, node, Setup(x.0 % (1 << g)));
     across_gap(e, g, block, x, inside)
 }

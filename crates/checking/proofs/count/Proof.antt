@@ -3,7 +3,7 @@ use mathlib.Core.Path.{sym, subst}
 use borrow.Author.Needs.{needs}
 use Rattle.checking.specs.Inner.{IsRefused}
 use Rattle.checking.specs.Operations.{counting}
-use Rattle.checking.proofs.Accepting.{handed-on, table-long, root-filled, root-low, counted}
+use Rattle.checking.proofs.Accepting.{handed-on, table-long, root-opens, counted}
 use Rattle.checking.proofs.count.Statement.{statement}
 use Rattle.checking.proofs.count.Tie as tie
 
@@ -20,10 +20,7 @@ header-of-requires c κs = table-long _ _ _ _ (c .before .before .before .before
 count-under-requires : tie.Need-count-under-requires
 count-under-requires c κs =
     let a = c .before in
-    let is = a .before .before .before .before .before .check .ensures in
-    let q = a .before .enum-told .given .1 in
-    let h = a .header-of .ensures in
-    (root-filled _ _ _ _ is _ q _ _ _ h, root-low _ _ _ _ is _ q _ _ _ h, h .few-settings)
+    root-opens _ _ _ _ (a .before .before .before .before .before .check .ensures) _ (a .before .enum-told .given .1) _ _ _ (a .header-of .ensures)
 
 returns-2 : tie.Need-returns-2
 returns-2 c =

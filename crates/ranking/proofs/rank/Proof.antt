@@ -1,63 +1,38 @@
+-- `ranking::rank` meets its contract: the check, then `rank_setup` from the root edge. Assumes nothing.
+use mathlib.Core.Path.{sym, subst}
 use borrow.Author.Needs.{needs}
+use Rattle.checking.specs.Inner.{IsRefused}
+use Rattle.checking.proofs.Accepting.{handed-on, table-long, root-opens, answered}
+use Rattle.ranking.specs.Operations.{rankSetup, ranking}
 use Rattle.ranking.proofs.rank.Statement.{statement}
 use Rattle.ranking.proofs.rank.Tie as tie
-use Rattle.ranking.proofs.rank.Reads as reads
-use Rattle.ranking.proofs.rank.Lts as lts
-use Rattle.checking.proofs.check.Reads as check-reads
-use Rattle.checking.proofs.refusal_of.Reads as refusal-of-reads
-use Rattle.diagram.proofs.header_of.Reads as header-of-reads
-use Rattle.ranking.proofs.rank_setup.Reads as rank-setup-reads
 
--- src/lib.rt:60:9
-check-requires : tie.Need-check-requires
-check-requires c κs = search needs
-
-enum-told : tie.Need-enum-told
-enum-told c = search needs
-
--- src/lib.rt:62:32
-enum-told-2 : tie.Need-enum-told-2
-enum-told-2 c = search needs
-
--- src/lib.rt:62:32
 refusal-of-requires : tie.Need-refusal-of-requires
-refusal-of-requires c κs = ?
+refusal-of-requires c κs = subst IsRefused (sym (c .enum-told2 .given .1)) tt
 
--- src/lib.rt:62:9
-same-length : tie.Need-same-length
-same-length c = search needs
-
--- src/lib.rt:62:9
 returns : tie.Need-returns
-returns c = ?
+unfolding ranking
+returns c =
+    let a = c .before .before .before .before .before in
+    (handed-on _ _ _ (a .check .result) (a .check .ensures) _ _ _ (c .refusal-of .ensures), a .check .ensures .1)
 
--- src/lib.rt:64:9
 header-of-requires : tie.Need-header-of-requires
-header-of-requires c κs = ?
+header-of-requires c κs = table-long _ _ _ _ (c .before .before .before .before .check .ensures) _ (c .enum-told .given .1)
 
--- src/lib.rt:65:5
 rank-setup-requires : tie.Need-rank-setup-requires
-rank-setup-requires c κs = ?
+rank-setup-requires c κs =
+    let a = c .before in
+    root-opens _ _ _ _ (a .before .before .before .before .before .check .ensures) _ (a .before .enum-told .given .1) _ _ _ (a .header-of .ensures)
 
--- src/lib.rt:56:1
-same-length-2 : tie.Need-same-length-2
-same-length-2 c = search needs
-
--- src/lib.rt:56:1
 returns-2 : tie.Need-returns-2
-returns-2 c = ?
+unfolding ranking
+returns-2 c =
+    let a = c .before .before in
+    let is = a .before .before .before .before .before .check .ensures in
+    (answered _ _ _ _ is _ (a .before .enum-told .given .1) _ _ _ (a .header-of .ensures) (rankSetup _) _ (c .rank-setup .ensures), is .1)
 
 pub rank-spec : {M : Type 1} → statement M
 rank-spec =
     tie.close
-    (tie.spec
-    check-requires
-    enum-told
-    enum-told-2
-    refusal-of-requires
-    same-length
-    returns
-    header-of-requires
-    rank-setup-requires
-    same-length-2
-    returns-2)
+    (tie.spec (λ c κs. search needs) (λ c. search needs) (λ c. search needs) refusal-of-requires (λ c. search needs) returns
+    header-of-requires rank-setup-requires (λ c. search needs) returns-2)

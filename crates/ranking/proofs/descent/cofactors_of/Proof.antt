@@ -1,55 +1,36 @@
+-- `ranking::descent::cofactors_of` meets its contract. Assumes nothing.
+use mathlib.Core.Bool.{true, false}
+use native.Mathlib.Omega.{arith}
 use borrow.Author.Needs.{needs}
+use Rattle.diagram.proofs.Cofactor.{passes-below, goes-on}
+use Rattle.ranking.proofs.Opening.{within-room, high-node}
 use Rattle.ranking.proofs.descent.cofactors_of.Statement.{statement}
 use Rattle.ranking.proofs.descent.cofactors_of.Tie as tie
-use Rattle.ranking.proofs.descent.cofactors_of.Reads as reads
-use Rattle.ranking.proofs.descent.cofactors_of.Lts as lts
-use Rattle.diagram.proofs.Edge.flagged.Reads as flagged-reads
-use Rattle.diagram.proofs.Edge.node.Reads as node-reads
-use Rattle.diagram.proofs.Edge.turned.Reads as turned-reads
-use Rattle.diagram.proofs.height_at.Reads as height-at-reads
-use Rattle.diagram.proofs.record_at.Reads as record-at-reads
 
--- src/descent.rt:28:9
-node-requires : tie.Need-node-requires
-node-requires c κs = search needs
-
--- src/descent.rt:29:8
 height-at-requires : tie.Need-height-at-requires
-height-at-requires c κs = search needs
+height-at-requires c κs = rw (c .node .ensures) (within-room _ _ (c .before .before .pre .0))
 
--- src/descent.rt:30:9
 returns : tie.Need-returns
-returns c = ?
+returns c =
+    let a = c .before .before in
+    let s = passes-below _ _ _ _ _ (a .node .ensures) (c .before .height-at .ensures .0) (c .if1 .taken) in
+    (s true, s false)
 
--- src/descent.rt:32:9
 record-at-requires : tie.Need-record-at-requires
-record-at-requires c κs = ?
+record-at-requires c κs =
+    let a = c .before .before in
+    let p = a .before .before .pre in
+    high-node _ _ _ _ _ (p .0) (p .2) (a .node .ensures) (c .before .height-at .ensures .0) (c .if1 .left)
 
--- src/descent.rt:33:9
-flagged-requires : tie.Need-flagged-requires
-flagged-requires c κs = search needs
-
--- src/descent.rt:35:15
-turned-requires : tie.Need-turned-requires
-turned-requires c κs = search needs
-
--- src/descent.rt:36:14
-turned-requires-2 : tie.Need-turned-requires-2
-turned-requires-2 c κs = search needs
-
--- src/descent.rt:23:1
 returns-2 : tie.Need-returns-2
-returns-2 c = ?
+returns-2 c =
+    let a = c .before .before .before .before .before .before in
+    let r = c .before .before .before .record-at .ensures in
+    let f = c .before .before .flagged .ensures in
+    let s = goes-on _ _ _ _ _ (a .node .ensures) (c .before .before .before .before .before .height-at .ensures .0) (c .before .before .before .before .if1 .left) in
+    (s true _ _ _ (r .then-is) f (c .before .turned .ensures), s false _ _ _ (r .else-is) f (c .turned2 .ensures))
 
 pub cofactors-of-spec : {M : Type 1} → statement M
 cofactors-of-spec =
     tie.close
-    (tie.spec
-    node-requires
-    height-at-requires
-    returns
-    record-at-requires
-    flagged-requires
-    turned-requires
-    turned-requires-2
-    returns-2)
+    (tie.spec (λ c κs. search needs) height-at-requires returns record-at-requires (λ c κs. search needs) (λ c κs. search needs) (λ c κs. search needs) returns-2)
