@@ -14,11 +14,14 @@ refused-not e = let z : _≡_ {A = ℕ} 0 1 = cc in omega arith
 pub value-inj : {A : Type 0} {a b : A} → value a ≡ value b → a ≡ b
 value-inj e = cc
 
--- what yields a value went through its first check
-pub then-value : {B : Type 0} (a : Answer (Unit {0})) (f : Unit {0} → Answer B) {b : B} → andThen a f ≡ value b → (a ≡ pass) × (f tt ≡ value b)
+-- what yields a value went through its first step
+pub then-some : {A B : Type 0} (a : Answer A) (f : A → Answer B) {b : B} → andThen a f ≡ value b → (v : A) × (a ≡ value v) × (f v ≡ value b)
 unfolding andThen
-then-value (value u) f e = (refl, e)
-then-value (refusal r p) f e = absurd (refused-not e)
+then-some (value v) f e = (v, refl, e)
+then-some (refusal r p) f e = absurd (refused-not e)
+
+pub then-value : {B : Type 0} (a : Answer (Unit {0})) (f : Unit {0} → Answer B) {b : B} → andThen a f ≡ value b → (a ≡ pass) × (f tt ≡ value b)
+then-value a f e = let s = then-some a f e in (s .1, s .2)
 
 -- a run of checks passes if each does
 pub each-all : (f : ℕ → Answer (Unit {0})) (m : ℕ) → each f m ≡ pass → (k : ℕ) → k < m → f k ≡ pass

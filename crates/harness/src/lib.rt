@@ -1,13 +1,15 @@
-// Checking, counting and testing for C, each answer packed into one number. For the outside tests only.
+// Checking, counting, testing and spans for C, each answer packed into one number. For the outside tests only.
 ghost use mathlib.Core.Path.{_≡_};
 ghost use Prim.Native.Nat.{ℕ, _+_, _*_, _^_};
 ghost use Rattle.diagram.specs.Count.{indicator};
 ghost use Rattle.checking.specs.Operations.{checking, counting, testing, sheetAfter};
+ghost use Rattle.division.specs.Operations.{spanning};
 ghost use Rattle.rules.specs.Packed.{packed};
 use checking::Checked;
 use checking::Counted;
 use checking::Tested;
 use diagram::Setup;
+use division::Spanned;
 
 // 2^32 × n + N.
 #[no_mangle]
@@ -45,5 +47,31 @@ pub extern "C" fn setupbook_test(table: &[u8], setup: u64, sheet: &mut [u8]) -> 
     match tested {
         Tested::Permitted(b) => b as u64,
         Tested::Refused(r) => rules::pack_refusal(r),
+    }
+}
+
+// The start of part j of k.
+#[no_mangle]
+pub extern "C" fn setupbook_span_start(table: &[u8], k: u64, j: u64, sheet: &mut [u8]) -> u64
+    ensures { λ r. ⌜ (r ≡ packed (λ v. v .0) (spanning (now (table .entry)) k j (now (sheet .entry))))
+        × (now (sheet .exit) ≡ sheetAfter (now (table .entry)) (now (sheet .entry))) ⌝ }
+{
+    let spanned = division::span(table, k, j, sheet);
+    match spanned {
+        Spanned::Part(p) => p.start.0,
+        Spanned::Refused(r) => rules::pack_refusal(r),
+    }
+}
+
+// The size of part j of k.
+#[no_mangle]
+pub extern "C" fn setupbook_span_size(table: &[u8], k: u64, j: u64, sheet: &mut [u8]) -> u64
+    ensures { λ r. ⌜ (r ≡ packed (λ v. v .1) (spanning (now (table .entry)) k j (now (sheet .entry))))
+        × (now (sheet .exit) ≡ sheetAfter (now (table .entry)) (now (sheet .entry))) ⌝ }
+{
+    let spanned = division::span(table, k, j, sheet);
+    match spanned {
+        Spanned::Part(p) => p.size,
+        Spanned::Refused(r) => rules::pack_refusal(r),
     }
 }

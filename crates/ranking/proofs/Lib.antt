@@ -5,3 +5,5 @@ pub mod Below
 pub mod Choosing
 pub mod Opening
 pub mod Answering
+pub mod Numbering
+pub mod Bounds

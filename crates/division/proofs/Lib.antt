@@ -1,0 +1,4 @@
+-- The laws of divisions.
+pub mod SpanLaws
+pub mod Sharing
+pub mod Bounds

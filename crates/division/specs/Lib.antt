@@ -1,0 +1,4 @@
+-- Divisions of a table into parts.
+pub mod Span
+pub mod Answers
+pub mod Operations
