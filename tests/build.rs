@@ -1,4 +1,4 @@
-//! Links the static archive `libharness.a` of the library under test.
+//! Links the static archives of the library under test: `libharness.a` and `libconsole.a`.
 
 use std::env;
 use std::path::PathBuf;
@@ -9,15 +9,17 @@ fn main() {
         Some(folder) => manifest.join(folder),
         None => manifest.join("../target/staticlib"),
     };
-    let archive = folder.join("libharness.a");
     println!("cargo::rerun-if-env-changed=SETUPBOOK_ARCHIVES");
-    println!("cargo::rerun-if-changed={}", archive.display());
-    if !archive.is_file() {
-        panic!(
-            "no archive {}: build it first or set SETUPBOOK_ARCHIVES",
-            archive.display()
-        );
-    }
     println!("cargo::rustc-link-search=native={}", folder.display());
-    println!("cargo::rustc-link-lib=static=harness");
+    for name in ["harness", "console"] {
+        let archive = folder.join(format!("lib{name}.a"));
+        println!("cargo::rerun-if-changed={}", archive.display());
+        if !archive.is_file() {
+            panic!(
+                "no archive {}: build it first or set SETUPBOOK_ARCHIVES",
+                archive.display()
+            );
+        }
+        println!("cargo::rustc-link-lib=static={name}");
+    }
 }

@@ -9,6 +9,10 @@ pub enum Call {
     Check,
     Count,
     Test { setup: u64 },
+    Rank { setup: u64 },
+    Unrank { rank: u64 },
+    SpanStart { k: u64, j: u64 },
+    SpanSize { k: u64, j: u64 },
 }
 
 /// A refusal: its number and its place.
@@ -29,8 +33,8 @@ impl Answer {
         Answer((1 << 63) + (refusal.number << 32) + refusal.place)
     }
 
-    /// The refusal packed into the answer, if it is one. The count 2^63 is none, because a
-    /// refusal number is at least 1.
+    /// The refusal packed into the answer, if it is one. The count or size 2^63 is none, because
+    /// a refusal number is at least 1.
     pub fn refusal(self) -> Option<Refusal> {
         let rest = self.0 & !(1 << 63);
         (self.0 >= FIRST_REFUSAL).then_some(Refusal {

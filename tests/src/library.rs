@@ -25,6 +25,36 @@ mod ffi {
             sheet: *mut u8,
             sheet_len: usize,
         ) -> u64;
+        pub fn setupbook_rank(
+            table: *const u8,
+            table_len: usize,
+            setup: u64,
+            sheet: *mut u8,
+            sheet_len: usize,
+        ) -> u64;
+        pub fn setupbook_unrank(
+            table: *const u8,
+            table_len: usize,
+            rank: u64,
+            sheet: *mut u8,
+            sheet_len: usize,
+        ) -> u64;
+        pub fn setupbook_span_start(
+            table: *const u8,
+            table_len: usize,
+            k: u64,
+            j: u64,
+            sheet: *mut u8,
+            sheet_len: usize,
+        ) -> u64;
+        pub fn setupbook_span_size(
+            table: *const u8,
+            table_len: usize,
+            k: u64,
+            j: u64,
+            sheet: *mut u8,
+            sheet_len: usize,
+        ) -> u64;
     }
 }
 
@@ -96,6 +126,10 @@ impl Library {
                 Call::Check => ffi::setupbook_check(t, t_len, s, s_len),
                 Call::Count => ffi::setupbook_count(t, t_len, s, s_len),
                 Call::Test { setup } => ffi::setupbook_test(t, t_len, setup, s, s_len),
+                Call::Rank { setup } => ffi::setupbook_rank(t, t_len, setup, s, s_len),
+                Call::Unrank { rank } => ffi::setupbook_unrank(t, t_len, rank, s, s_len),
+                Call::SpanStart { k, j } => ffi::setupbook_span_start(t, t_len, k, j, s, s_len),
+                Call::SpanSize { k, j } => ffi::setupbook_span_size(t, t_len, k, j, s, s_len),
             }
         };
         let case = || describe(self.seed, call, table, sheet.len());

@@ -1,6 +1,6 @@
-//! The paper, straight: which tables are refused, which setups are permitted, what the counts are
-//! and what each call leaves in the sheet. Written for clarity; numbers are u128 where they may
-//! grow.
+//! The paper, straight: which tables are refused, which setups are permitted, what the counts,
+//! ranks and parts are and what each call leaves in the sheet. Written for clarity; numbers are
+//! u128 where they may grow.
 
 use crate::call::{Answer, Call, Outcome, Refusal};
 use crate::layout::{fields, words_of};
@@ -64,6 +64,19 @@ impl Table {
         }
     }
 
+    /// The last record: N, unless records are missing.
+    fn last(&self) -> u64 {
+        self.node_count.min(self.words.len() as u64 - 1)
+    }
+
+    /// Every record is there and none breaks rule 4 or 6: heights fall along every edge, so it is
+    /// settled which setups are permitted, whatever the other faults are.
+    fn is_ordered(&self, faults: &[Refusal]) -> bool {
+        let last = self.last();
+        let falling = faults.iter().all(|fault| ![4, 6].contains(&fault.number));
+        last == self.node_count && self.root.node <= last && falling
+    }
+
     /// Rule 6 for one edge of record k: a node not below k, or one whose height is not below the
     /// record's.
     fn leads_too_high(&self, k: u64, edge: Edge) -> bool {
@@ -94,7 +107,7 @@ impl Table {
             .collect()
     }
 
-    /// The lowest record below `last` that no record names; `last` is N unless records are missing.
+    /// The lowest record below `last` that no record names.
     fn lowest_unnamed(&self, last: u64) -> Option<u64> {
         let mut named = vec![false; last as usize + 1];
         for k in 1..=last {
@@ -111,19 +124,27 @@ impl Table {
     /// The number of set flags from `edge` on, for a number whose bit of weight 2^(h-1) belongs
     /// to height h, is even.
     pub fn permits(&self, edge: Edge, settings: u64) -> bool {
+        !self.follow(edge, settings, 0).flag
+    }
+
+    /// The edge reached from `edge` at the first node of at most the given height. Its flag is
+    /// whether the number of set flags passed is odd.
+    fn follow(&self, edge: Edge, settings: u64, height: u64) -> Edge {
         let mut edge = edge;
-        let mut flags = u64::from(edge.flag);
-        while edge.node != 0 {
+        while self.height(edge.node) > height {
             let record = self.record(edge.node);
             let bit = (settings >> (record.height - 1)) & 1;
-            edge = if bit == 1 {
+            let next = if bit == 1 {
                 record.then_edge
             } else {
                 record.else_edge
             };
-            flags += u64::from(edge.flag);
+            edge = Edge {
+                node: next.node,
+                flag: edge.flag != next.flag,
+            };
         }
-        flags % 2 == 0
+        edge
     }
 
     /// The count under an edge, of the 2^h settings below its node of height h.
@@ -155,33 +176,84 @@ impl Table {
     pub fn total(&self, counts: &[u128]) -> u128 {
         self.count_under(self.root, counts) << (self.n - self.height(self.root.node))
     }
+
+    /// How many of the 2^height setups from `first` on are permitted. `first` is a multiple of
+    /// 2^height, so they agree in all settings above that height.
+    fn permitted_in_block(&self, first: u64, height: u64, counts: &[u128]) -> u128 {
+        let edge = self.follow(self.root, first, height);
+        self.count_under(edge, counts) << (height - self.height(edge.node))
+    }
+
+    /// How many permitted setups are below `limit`, which is at most 2^n: the rank of `limit` if
+    /// it is permitted. Each set bit of `limit` stands for a block, the setups that have 0 there
+    /// and agree with `limit` above it.
+    pub fn permitted_below(&self, limit: u64, counts: &[u128]) -> u128 {
+        (0..=self.n)
+            .filter(|height| (limit >> height) & 1 == 1)
+            .map(|height| {
+                let first = ((limit >> height) - 1) << height;
+                self.permitted_in_block(first, height, counts)
+            })
+            .sum()
+    }
+
+    /// The permitted setup with this rank, which is below C: the smallest setup up to which more
+    /// than `rank` are permitted, found by halving.
+    pub fn setup_number(&self, rank: u64, counts: &[u128]) -> u64 {
+        let (mut low, mut high) = (0, (1 << self.n) - 1);
+        while low < high {
+            let middle = low + (high - low) / 2;
+            if self.permitted_below(middle + 1, counts) > u128::from(rank) {
+                high = middle;
+            } else {
+                low = middle + 1;
+            }
+        }
+        low
+    }
+}
+
+/// Start and size of part j of k, of `total` setups: a start is the running sum of the sizes.
+pub fn span(total: u128, k: u64, j: u64) -> (u128, u128) {
+    let least = total / u128::from(k);
+    let rest = total % u128::from(k);
+    let size = |index: u64| least + u128::from(u128::from(index) < rest);
+    ((0..j).map(size).sum(), size(j))
 }
 
 /// Every refusal whose condition holds, in the paper's order: the first one is returned. A
 /// condition that speaks of what is not there (a header, a record) does not hold.
 pub fn refusals(call: Call, table: &[u8], sheet_len: usize) -> Vec<Refusal> {
     let mut holding = Vec::new();
-    let mut note = |number: u64, place: u64| holding.push(Refusal { number, place });
-    if table.len() < 8 {
-        note(1, 0);
-        return holding;
+    let read = (table.len() >= 8).then(|| Table::read(table));
+    match &read {
+        Some(read) => table_refusals(&mut holding, read, table.len(), sheet_len),
+        None => holding.push(Refusal {
+            number: 1,
+            place: 0,
+        }),
     }
-    let length = table.len() as u64;
-    let table = Table::read(table);
-    let places = sheet_len as u64 / 8;
+    let number = examiner_refusal(call, read.as_ref(), &holding);
+    holding.extend(number.map(|number| Refusal { number, place: 0 }));
+    holding
+}
+
+/// Refusals 1 to 10 of a table that has a header.
+fn table_refusals(holding: &mut Vec<Refusal>, table: &Table, length: usize, sheet_len: usize) {
+    let mut note = |number: u64, place: u64| holding.push(Refusal { number, place });
     if table.node_count > 65_535 {
         note(2, 0);
     }
-    if length != 8 * (table.node_count + 1) {
+    if length as u64 != 8 * (table.node_count + 1) {
         note(1, 0);
     }
     if table.root.node != table.node_count {
         note(3, 0);
     }
-    if places < table.node_count + 1 {
+    if (sheet_len as u64) / 8 < table.node_count + 1 {
         note(10, 0);
     }
-    let last = table.node_count.min(table.words.len() as u64 - 1);
+    let last = table.last();
     for k in 1..=last {
         for number in table.faults(k) {
             note(number, k);
@@ -190,17 +262,31 @@ pub fn refusals(call: Call, table: &[u8], sheet_len: usize) -> Vec<Refusal> {
     if let Some(k) = table.lowest_unnamed(last) {
         note(9, k);
     }
-    if let Call::Test { setup } = call {
-        if u128::from(setup) >= 1u128 << table.n {
-            note(12, 0);
-        }
-    }
-    holding
 }
 
-/// What the call answers and leaves in the sheet.
-pub fn run(call: Call, table: &[u8], sheet: &[u8]) -> Outcome {
-    let refusal = refusals(call, table, sheet.len()).first().copied();
+/// Refusals 12 to 15, of which at most one holds. 13 and 14 speak of the permitted setups: they
+/// hold only if the table's other faults leave it settled which these are.
+fn examiner_refusal(call: Call, table: Option<&Table>, faults: &[Refusal]) -> Option<u64> {
+    let ordered = table.filter(|table| table.is_ordered(faults));
+    let outside = |setup| table.is_some_and(|table| u128::from(setup) >= 1u128 << table.n);
+    match call {
+        Call::Check | Call::Count => None,
+        Call::Test { setup } | Call::Rank { setup } if outside(setup) => Some(12),
+        Call::Test { .. } => None,
+        Call::Rank { setup } => ordered
+            .is_some_and(|table| !table.permits(table.root, setup))
+            .then_some(13),
+        Call::Unrank { rank } => ordered
+            .is_some_and(|table| u128::from(rank) >= table.total(&table.counts()))
+            .then_some(14),
+        Call::SpanStart { k, j } | Call::SpanSize { k, j } => {
+            (k == 0 || k > 65_535 || j >= k).then_some(15)
+        }
+    }
+}
+
+/// What the call answers and leaves in the sheet, if the given refusal is the first that holds.
+pub fn run(call: Call, table: &[u8], sheet: &[u8], refusal: Option<Refusal>) -> Outcome {
     let mut sheet = sheet.to_vec();
     if let Some(refusal) = refusal {
         if refusal.number <= 8 || refusal.number == 10 {
@@ -221,13 +307,26 @@ pub fn run(call: Call, table: &[u8], sheet: &[u8]) -> Outcome {
     }
     let counts = table.counts();
     put_places(&mut sheet, &counts);
-    let answer = match (refusal, call) {
-        (Some(refusal), _) => Answer::refused(refusal),
-        (None, Call::Check) => Answer((table.n << 32) + table.node_count),
-        (None, Call::Count) => Answer(u64::try_from(table.total(&counts)).unwrap()),
-        (None, Call::Test { setup }) => Answer(u64::from(table.permits(table.root, setup))),
+    let answer = match refusal {
+        Some(refusal) => Answer::refused(refusal),
+        None => Answer(result(call, &table, &counts)),
     };
     Outcome { answer, sheet }
+}
+
+/// The value that a call answers if nothing is refused.
+fn result(call: Call, table: &Table, counts: &[u128]) -> u64 {
+    let total = table.total(counts);
+    let value = match call {
+        Call::Check => u128::from((table.n << 32) + table.node_count),
+        Call::Count => total,
+        Call::Test { setup } => u128::from(table.permits(table.root, setup)),
+        Call::Rank { setup } => table.permitted_below(setup, counts),
+        Call::Unrank { rank } => u128::from(table.setup_number(rank, counts)),
+        Call::SpanStart { k, j } => span(total, k, j).0,
+        Call::SpanSize { k, j } => span(total, k, j).1,
+    };
+    u64::try_from(value).unwrap()
 }
 
 /// Writes the places from place 0 on.

@@ -254,6 +254,17 @@ pub fn random_accepted(rng: &mut Rng, n: u64, most: usize) -> Vec<u64> {
     from_plan(rng, n, &plan, true)
 }
 
+/// A random accepted table; many are small, some have hundreds of records.
+pub fn of_any_size(rng: &mut Rng) -> Vec<u64> {
+    let n = if rng.chance(50) {
+        rng.between(1, 12)
+    } else {
+        rng.between(1, 63)
+    };
+    let most = rng.pick(&[4, 8, 20, 80, 400]);
+    random_accepted(rng, n, most)
+}
+
 /// One record a height up to n: only the last setup, or all setups but the first, or the
 /// opposite. Its counts are the greatest and the smallest ones of each height.
 pub fn chain(n: u64, only_one: bool, root_flag: u64) -> Vec<u64> {

@@ -1,22 +1,20 @@
-//! The library against the paper: answers and every byte of the sheet, over tables of every kind.
+//! The library against the paper: answers and every byte of the sheet, all operations over tables
+//! of every kind.
 
 use setupbook_tests::call::Call;
-use setupbook_tests::comparison::{report, Comparison};
+use setupbook_tests::comparison::{random_part, Comparison};
 use setupbook_tests::damage;
 use setupbook_tests::layout::{bytes_of, fields, word};
 use setupbook_tests::rng::Rng;
 use setupbook_tests::sheets;
 use setupbook_tests::tables::{self, TruthTable};
 
-/// Compares tables of one kind.
-type Group = fn(&mut Comparison);
-
 #[test]
 fn library_agrees_with_the_paper() {
     let seed = Rng::seed_of_run();
     println!("seed {seed}");
     let mut comparison = Comparison::new(seed);
-    let groups: [(&str, Group); 15] = [
+    comparison.run(&[
         ("all functions of up to 3 settings", all_small_functions),
         ("random functions of 4 to 8 settings", random_functions),
         ("tables without records", constants),
@@ -32,20 +30,10 @@ fn library_agrees_with_the_paper() {
         ("random words and bytes", random_bytes),
         ("every length of a table", every_length),
         ("up to 65,535 records and above", wide),
-    ];
-    for (name, group) in groups {
-        let (before, start) = (comparison.tally.cases, std::time::Instant::now());
-        group(&mut comparison);
-        println!(
-            "{name}: {} cases, {} ms",
-            comparison.tally.cases - before,
-            start.elapsed().as_millis()
-        );
-    }
-    report(&format!("seed {seed}: {}", comparison.tally.summary()));
+    ]);
     comparison.tally.assert_every_answer();
     comparison.tally.assert_every_pair();
-    assert!(comparison.tally.cases >= 20_000);
+    assert!(comparison.tally.cases >= 400_000);
 }
 
 /// Compares a table made from a truth table, and its answers with the truth table itself.
@@ -110,20 +98,9 @@ fn chains(comparison: &mut Comparison) {
     }
 }
 
-/// A random accepted table; many are small, some have hundreds of records.
-fn some_table(rng: &mut Rng) -> Vec<u64> {
-    let n = if rng.chance(50) {
-        rng.between(1, 12)
-    } else {
-        rng.between(1, 63)
-    };
-    let most = rng.pick(&[4, 8, 20, 80, 400]);
-    tables::random_accepted(rng, n, most)
-}
-
 fn accepted(comparison: &mut Comparison) {
     for _ in 0..1500 {
-        let words = some_table(&mut comparison.rng);
+        let words = tables::of_any_size(&mut comparison.rng);
         let table = bytes_of(&words);
         let answer = comparison.compare_served(Call::Check, &table);
         assert!(
@@ -136,7 +113,7 @@ fn accepted(comparison: &mut Comparison) {
 
 fn every_sheet(comparison: &mut Comparison) {
     for round in 0..60 {
-        let mut words = some_table(&mut comparison.rng);
+        let mut words = tables::of_any_size(&mut comparison.rng);
         if round % 3 == 2 {
             let refusal = comparison.rng.between(3, 9);
             damage::aim(&mut comparison.rng, &mut words, refusal);
@@ -146,11 +123,18 @@ fn every_sheet(comparison: &mut Comparison) {
         for len in sheets::border_lengths(node_count) {
             for content in [vec![0; len], vec![0xFF; len], comparison.rng.bytes(len)] {
                 let setup = comparison.rng.below(1 << n);
+                let rank = comparison.rng.below(1 << n);
+                let (k, j) = random_part(&mut comparison.rng);
                 for call in [
                     Call::Check,
                     Call::Count,
                     Call::Test { setup },
                     Call::Test { setup: 1 << n },
+                    Call::Rank { setup },
+                    Call::Rank { setup: 1 << n },
+                    Call::Unrank { rank },
+                    Call::SpanStart { k, j },
+                    Call::SpanSize { k, j },
                 ] {
                     comparison.compare(call, &table, &content);
                 }
@@ -173,7 +157,7 @@ fn unnamed(comparison: &mut Comparison) {
 fn one_fault(comparison: &mut Comparison) {
     for refusal in 1..=9 {
         for _ in 0..250 {
-            let mut words = some_table(&mut comparison.rng);
+            let mut words = tables::of_any_size(&mut comparison.rng);
             damage::aim(&mut comparison.rng, &mut words, refusal);
             comparison.compare_words(&words);
         }
@@ -183,7 +167,7 @@ fn one_fault(comparison: &mut Comparison) {
 fn several_faults(comparison: &mut Comparison) {
     for _ in 0..2000 {
         let rng = &mut comparison.rng;
-        let mut words = some_table(rng);
+        let mut words = tables::of_any_size(rng);
         for _ in 0..rng.between(2, 4) {
             // Faults of the records more often than those of the header, which hide them.
             let refusal = if rng.chance(85) {
@@ -204,7 +188,7 @@ fn faulty_record(comparison: &mut Comparison) {
             .filter(|rule| (set >> (rule - 4)) & 1 == 1)
             .collect();
         for _ in 0..30 {
-            let mut words = some_table(&mut comparison.rng);
+            let mut words = tables::of_any_size(&mut comparison.rng);
             damage::break_last_record(&mut comparison.rng, &mut words, &rules);
             comparison.compare_words(&words);
         }
@@ -213,7 +197,7 @@ fn faulty_record(comparison: &mut Comparison) {
 
 fn turned_bits(comparison: &mut Comparison) {
     for _ in 0..1500 {
-        let mut words = some_table(&mut comparison.rng);
+        let mut words = tables::of_any_size(&mut comparison.rng);
         damage::flip_bits(&mut comparison.rng, &mut words);
         comparison.compare_words(&words);
     }
@@ -280,4 +264,8 @@ fn wide(comparison: &mut Comparison) {
     let words = tables::from_plan(&mut comparison.rng, 40, &plan, true);
     assert_eq!(words[0], word(40, 65_536, fields(words[0]).2));
     comparison.compare_words(&words);
+    for _ in 0..20 {
+        let setup = comparison.rng.below(1 << 40);
+        comparison.compare_served(Call::Rank { setup }, &bytes_of(&words));
+    }
 }

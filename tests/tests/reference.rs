@@ -1,14 +1,14 @@
-//! The paper's counts, as `paper` takes them, against a brute-force reader of all setups.
+//! The reference itself: counts, ranks and setups, as `paper` takes them, against a brute-force
+//! reader of all setups, and the running sums of the parts against their closed form.
 
 use setupbook_tests::comparison::report;
 use setupbook_tests::layout::bytes_of;
-use setupbook_tests::paper::{Edge, Table};
+use setupbook_tests::paper::{self, Edge, Table};
 use setupbook_tests::rng::Rng;
 use setupbook_tests::tables;
 
 /// Counts C and every place by trying all settings.
-fn compare_with_brute_force(words: &[u64]) {
-    let table = Table::read(&bytes_of(words));
+fn compare_counts(table: &Table) {
     let counts = table.counts();
     for k in 0..=table.node_count {
         let plain = Edge {
@@ -20,17 +20,40 @@ fn compare_with_brute_force(words: &[u64]) {
             .count();
         assert_eq!(
             counts[k as usize], permitted as u128,
-            "place {k} of {words:016X?}"
+            "place {k} of {:016X?}",
+            table.words
         );
     }
     let permitted = (0..1u64 << table.n)
         .filter(|&setup| table.permits(table.root, setup))
         .count();
-    assert_eq!(table.total(&counts), permitted as u128, "{words:016X?}");
+    assert_eq!(
+        table.total(&counts),
+        permitted as u128,
+        "{:016X?}",
+        table.words
+    );
+}
+
+/// Tries all setups in order: how many have been permitted before is the rank of the next.
+fn compare_ranks(table: &Table) {
+    let counts = table.counts();
+    let mut rank = 0;
+    for setup in 0..1u64 << table.n {
+        let below = table.permitted_below(setup, &counts);
+        assert_eq!(below, u128::from(rank), "{setup} of {:016X?}", table.words);
+        if table.permits(table.root, setup) {
+            let unranked = table.setup_number(rank, &counts);
+            assert_eq!(unranked, setup, "number {rank} of {:016X?}", table.words);
+            rank += 1;
+        }
+    }
+    let all = table.permitted_below(1 << table.n, &counts);
+    assert_eq!(all, u128::from(rank), "{:016X?}", table.words);
 }
 
 #[test]
-fn counts_are_those_of_brute_force() {
+fn counts_and_ranks_are_those_of_brute_force() {
     let seed = Rng::seed_of_run();
     println!("seed {seed}");
     let mut rng = Rng::new(seed);
@@ -38,16 +61,19 @@ fn counts_are_those_of_brute_force() {
     for n in 0..=12 {
         for _ in 0..40 {
             let most = rng.pick(&[0, 2, 8, 40]);
-            compare_with_brute_force(&tables::random_accepted(&mut rng, n, most));
+            let words = tables::random_accepted(&mut rng, n, most);
+            let table = Table::read(&bytes_of(&words));
+            compare_counts(&table);
+            compare_ranks(&table);
             cases += 1;
         }
     }
     for n in 0..=8 {
         for _ in 0..20 {
             let function = tables::random_truth_table(&mut rng, n);
-            let words = tables::from_truth_table(&function);
-            compare_with_brute_force(&words);
-            let table = Table::read(&bytes_of(&words));
+            let table = Table::read(&bytes_of(&tables::from_truth_table(&function)));
+            compare_counts(&table);
+            compare_ranks(&table);
             for (setup, permitted) in function.iter().enumerate() {
                 assert_eq!(table.permits(table.root, setup as u64), *permitted);
             }
@@ -55,4 +81,28 @@ fn counts_are_those_of_brute_force() {
         }
     }
     report(&format!("brute force: {cases} tables"));
+}
+
+/// The start without a running sum: j parts of q, and one more for each of the first e.
+fn closed_start(total: u128, k: u64, j: u64) -> u128 {
+    let (k, j) = (u128::from(k), u128::from(j));
+    j * (total / k) + j.min(total % k)
+}
+
+#[test]
+fn sizes_add_up_to_the_closed_form() {
+    let mut rng = Rng::new(Rng::seed_of_run());
+    let mut totals: Vec<u64> = vec![0, 1, 2, 6, 255, 256, 65_535, 65_536, (1 << 63) - 1, 1 << 63];
+    totals.extend((0..10).map(|_| rng.below(1 << 63)));
+    for total in totals.into_iter().map(u128::from) {
+        for k in (1..=200).chain([1_000, 65_534, 65_535]) {
+            let (start, size) = paper::span(total, k, k - 1);
+            assert_eq!(start + size, total, "{k} parts of {total}");
+            for j in [0, 1, k / 2, k - 1, rng.below(k)] {
+                let (start, size) = paper::span(total, k, j);
+                assert_eq!(start, closed_start(total, k, j), "part {j} of {k}");
+                assert_eq!(start + size, closed_start(total, k, j + 1));
+            }
+        }
+    }
 }

@@ -1,7 +1,7 @@
-//! The paper's samples that concern check, count and test.
+//! The paper's samples.
 
-use setupbook_tests::call::{Answer, Call, Refusal};
-use setupbook_tests::comparison::{report, Comparison};
+use setupbook_tests::call::{Answer, Call, Outcome, Refusal};
+use setupbook_tests::comparison::Comparison;
 use setupbook_tests::layout::{bytes_of, words_of};
 use setupbook_tests::library::Library;
 use setupbook_tests::rng::Rng;
@@ -73,77 +73,149 @@ fn accepted_samples() -> Vec<Sample> {
 
 /// The table, the refusal and its place.
 fn refused_samples() -> Vec<(Vec<u8>, u64, u64)> {
-    let refused = |words: &[u64], number, place| (bytes_of(words), number, place);
+    let table = |words: &[u64], number, place| (bytes_of(words), number, place);
     vec![
         (vec![0; 7], 1, 0),
         (bytes_of(&A)[..7].to_vec(), 1, 0),
-        refused(&[0x0C00200000000000], 2, 0),
-        refused(&a_with(0, 0x0C00000060000004), 3, 0),
-        refused(&a_with(1, 0x0000000000000001), 4, 1),
-        refused(&a_with(1, 0x0400000020000000), 7, 1),
-        refused(&a_with(2, 0x0400000000000001), 5, 2),
-        refused(&a_with(2, 0x0800000080000001), 6, 2),
-        refused(&a_with(3, 0x0C00000080000004), 8, 3),
-        refused(&a_with(3, 0x0C00000040000000), 9, 2),
+        table(&[0x0C00200000000000], 2, 0),
+        table(&a_with(0, 0x0C00000060000004), 3, 0),
+        table(&a_with(1, 0x0000000000000001), 4, 1),
+        table(&a_with(1, 0x0400000020000000), 7, 1),
+        table(&a_with(2, 0x0400000000000001), 5, 2),
+        table(&a_with(2, 0x0800000080000001), 6, 2),
+        table(&a_with(3, 0x0C00000080000004), 8, 3),
+        table(&a_with(3, 0x0C00000040000000), 9, 2),
     ]
 }
 
-#[test]
-fn samples_of_the_paper() {
-    let seed = Rng::seed_of_run();
-    let mut library = Library::new(seed);
-    let mut comparison = Comparison::new(seed);
-    let mut ask = |call: Call, table: &[u8]| {
-        comparison.compare_all(table);
-        comparison.compare_served(call, table);
-        library.run(call, table, &[0xFF; 64])
-    };
+fn refused(number: u64, place: u64) -> Answer {
+    Answer::refused(Refusal { number, place })
+}
 
-    for sample in accepted_samples() {
-        let table = bytes_of(&sample.words);
-        assert_eq!(
-            ask(Call::Check, &table).answer.0,
-            (sample.n << 32) + sample.node_count
-        );
-        assert_eq!(ask(Call::Count, &table).answer.0, sample.count);
-        for setup in 0..1 << sample.n {
-            let permitted = u64::from(sample.permitted.contains(&setup));
-            assert_eq!(ask(Call::Test { setup }, &table).answer.0, permitted);
+/// Asks the library, and compares it with the reference too.
+struct Sampler {
+    library: Library,
+    comparison: Comparison,
+}
+
+impl Sampler {
+    fn new() -> Sampler {
+        let seed = Rng::seed_of_run();
+        Sampler {
+            library: Library::new(seed),
+            comparison: Comparison::new(seed),
         }
-        let outside = Answer::refused(Refusal {
-            number: 12,
-            place: 0,
-        });
-        assert_eq!(
-            ask(
-                Call::Test {
-                    setup: 1 << sample.n
-                },
-                &table
-            )
-            .answer,
-            outside
-        );
     }
 
-    let table = bytes_of(&[0xFC00000000000000]);
-    assert_eq!(ask(Call::Count, &table).answer.0, 9223372036854775808);
+    /// With a sheet of eight places, all ones.
+    fn ask(&mut self, call: Call, table: &[u8]) -> Outcome {
+        self.comparison.compare_all(table);
+        self.comparison.compare_served(call, table);
+        self.library.run(call, table, &[0xFF; 64])
+    }
 
+    fn answer(&mut self, call: Call, words: &[u64]) -> Answer {
+        self.ask(call, &bytes_of(words)).answer
+    }
+}
+
+#[test]
+fn accepted_tables() {
+    let mut sampler = Sampler::new();
+    for sample in accepted_samples() {
+        let words = &sample.words;
+        let shape = (sample.n << 32) + sample.node_count;
+        assert_eq!(sampler.answer(Call::Check, words), Answer(shape));
+        assert_eq!(sampler.answer(Call::Count, words), Answer(sample.count));
+        for setup in 0..1 << sample.n {
+            let rank = sample.permitted.iter().position(|&x| x == setup);
+            let tested = Answer(u64::from(rank.is_some()));
+            assert_eq!(sampler.answer(Call::Test { setup }, words), tested);
+            let ranked = rank.map_or(refused(13, 0), |rank| Answer(rank as u64));
+            assert_eq!(sampler.answer(Call::Rank { setup }, words), ranked);
+        }
+        let setup = 1 << sample.n;
+        for call in [Call::Test { setup }, Call::Rank { setup }] {
+            assert_eq!(sampler.answer(call, words), refused(12, 0));
+        }
+        for rank in 0..=sample.count {
+            let setup = sample.permitted.get(rank as usize);
+            let unranked = setup.map_or(refused(14, 0), |&setup| Answer(setup));
+            assert_eq!(sampler.answer(Call::Unrank { rank }, words), unranked);
+        }
+    }
+    let full = sampler.answer(Call::Count, &[0xFC00000000000000]);
+    assert_eq!(full, Answer(9223372036854775808));
+}
+
+#[test]
+fn ranks_and_setups() {
+    let mut sampler = Sampler::new();
+    for (call, answer) in [
+        (Call::Rank { setup: 7 }, Answer(5)),
+        (Call::Rank { setup: 5 }, refused(13, 0)),
+        (Call::Rank { setup: 8 }, refused(12, 0)),
+        (Call::Unrank { rank: 4 }, Answer(4)),
+        (Call::Unrank { rank: 5 }, Answer(7)),
+        (Call::Unrank { rank: 6 }, refused(14, 0)),
+    ] {
+        assert_eq!(sampler.answer(call, &A), answer);
+    }
+    let empty = sampler.answer(Call::Unrank { rank: 0 }, &[0x0C00000000000001]);
+    assert_eq!(empty, refused(14, 0));
+}
+
+#[test]
+fn parts() {
+    let mut sampler = Sampler::new();
+    let sizes_of_a: [&[u64]; 3] = [&[3, 3], &[2, 2, 1, 1], &[1, 1, 1, 1, 1, 1, 0, 0]];
+    for sizes in sizes_of_a {
+        let k = sizes.len() as u64;
+        let mut start = 0;
+        for (j, &size) in (0..).zip(sizes) {
+            let answer = sampler.answer(Call::SpanStart { k, j }, &A);
+            assert_eq!(answer, Answer(start));
+            let answer = sampler.answer(Call::SpanSize { k, j }, &A);
+            assert_eq!(answer, Answer(size));
+            start += size;
+        }
+    }
+    for (k, j, start, size) in [
+        (65_535, 0, Answer(0), Answer(1)),
+        (65_535, 65_534, Answer(6), Answer(0)),
+        (65_535, 65_535, refused(15, 0), refused(15, 0)),
+        (65_536, 0, refused(15, 0), refused(15, 0)),
+    ] {
+        assert_eq!(sampler.answer(Call::SpanStart { k, j }, &A), start);
+        assert_eq!(sampler.answer(Call::SpanSize { k, j }, &A), size);
+    }
+}
+
+#[test]
+fn sheets_and_refused_tables() {
+    let mut sampler = Sampler::new();
     for call in [
         Call::Check,
         Call::Count,
         Call::Test { setup: 7 },
         Call::Test { setup: 8 },
+        Call::Rank { setup: 7 },
+        Call::Rank { setup: 5 },
+        Call::Rank { setup: 8 },
+        Call::Unrank { rank: 5 },
+        Call::Unrank { rank: 6 },
+        Call::SpanStart { k: 4, j: 3 },
+        Call::SpanSize { k: 4, j: 3 },
+        Call::SpanSize { k: 4, j: 4 },
     ] {
-        let places = words_of(&ask(call, &bytes_of(&A)).sheet);
+        let places = words_of(&sampler.ask(call, &bytes_of(&A)).sheet);
         assert_eq!(places, [1, 1, 2, 6, u64::MAX, u64::MAX, u64::MAX, u64::MAX]);
         for (table, number, place) in refused_samples() {
-            let outcome = ask(call, &table);
-            assert_eq!(outcome.answer, Answer::refused(Refusal { number, place }));
+            let outcome = sampler.ask(call, &table);
+            assert_eq!(outcome.answer, refused(number, place));
             let first = if number == 9 { 0 } else { u64::MAX };
             assert_eq!(words_of(&outcome.sheet)[..4], [first; 4]);
             assert_eq!(words_of(&outcome.sheet)[4..], [u64::MAX; 4]);
         }
     }
-    report(&format!("samples: {} cases", comparison.tally.cases));
 }

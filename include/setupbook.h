@@ -1,0 +1,83 @@
+/*
+ * The setup book: rank and unrank over a reduced OBDD with complement edges.
+ *
+ * A table is a decision diagram over n settings (0 to 63) with N nodes (0 to 65,535) as a row of
+ * N + 1 words of 64 bits, most significant byte first; docs/FORMAT.md has the fields. It permits
+ * C of the 2^n setups (C is its model count). A setup is a number below 2^n: the first setting
+ * has weight 2^(n-1), so that the lexicographic order of setups is the order of numbers. The rank
+ * of a permitted setup is how many permitted setups are smaller: 0 to C - 1.
+ *
+ * Memory: `table` has table_len bytes and is only read. `sheet` is a work sheet of sheet_len bytes;
+ * at least 8 * (N + 1) are needed, as many as an accepted table has. The two share no byte, and
+ * nobody else writes them during a call. Neither pointer is null; neither needs an alignment.
+ * Lengths and contents may be any: there is nothing to check before a call. A call allocates
+ * nothing, keeps nothing and takes about 66 KiB of stack.
+ *
+ * Sheet afterwards, its first N + 1 words (most significant byte first), by what was answered:
+ *     refusals 1 to 8, and 10          unchanged
+ *     refusal 9                        zero
+ *     refusals 12 to 14, or a result   word k is the model count of node k over the settings from
+ *                                      its own down to the last; word 0 is 1
+ * All bytes behind them are unchanged. No call depends on what the sheet held before.
+ *
+ * Answer: the result, which is below 2^63, or 2^63 + 2^32 * refusal + place. The place is the
+ * record k (1 to N) for refusals 4 to 9, otherwise 0. The first refusal that holds is answered,
+ * in this order:
+ *      1  table_len is under 8
+ *      2  N is above 65,535
+ *      1  table_len is not 8 * (N + 1)
+ *      3  the root edge does not lead to node N
+ *     10  sheet_len is under 8 * (N + 1)
+ *         then for record 1, record 2, ... to N:
+ *      4    its height is 0 or above n
+ *      5    it is not above the record before it, as an unsigned number
+ *      6    an edge leads to a node not below k, or to a height not below its own
+ *      7    its then-edge is complemented
+ *      8    its two edges are equal
+ *      9  no record has an edge to record k, which is below N; the lowest such k
+ *     12  rank: the setup is 2^n or more
+ *     13  rank: the setup is not permitted
+ *     14  unrank: the rank is C or more
+ * The other numbers belong to other operations.
+ */
+#ifndef SETUPBOOK_H
+#define SETUPBOOK_H
+
+#include <stddef.h>
+#include <stdint.h>
+
+#ifdef __cplusplus
+extern "C" {
+#endif
+
+/* The rank of a setup. Refusals 1 to 10, 12, 13. */
+uint64_t setupbook_rank(const uint8_t *table, size_t table_len, uint64_t setup,
+                        uint8_t *sheet, size_t sheet_len);
+
+/* The permitted setup that has this rank. Refusals 1 to 10, 14. */
+uint64_t setupbook_unrank(const uint8_t *table, size_t table_len, uint64_t rank,
+                          uint8_t *sheet, size_t sheet_len);
+
+/* 1 if the answer is a refusal, 0 if it is a result. */
+static inline int setupbook_is_refusal(uint64_t answer)
+{
+    return (int)(answer >> 63);
+}
+
+/* The number of a refusal. */
+static inline unsigned setupbook_refusal(uint64_t answer)
+{
+    return (unsigned)(answer >> 32 & 0x7fffffff);
+}
+
+/* The place of a refusal. */
+static inline unsigned long setupbook_place(uint64_t answer)
+{
+    return (unsigned long)(answer & 0xffffffff);
+}
+
+#ifdef __cplusplus
+}
+#endif
+
+#endif

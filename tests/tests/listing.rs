@@ -1,0 +1,169 @@
+//! The program `setuplist`: its whole standard output against stored listings and against the
+//! paper.
+
+use std::fs;
+use std::io::Write;
+use std::path::{Path, PathBuf};
+use std::process::{Command, Stdio};
+use std::time::Duration;
+
+use setupbook_tests::call::Call;
+use setupbook_tests::damage;
+use setupbook_tests::layout::bytes_of;
+use setupbook_tests::paper::{self, Table};
+use setupbook_tests::rng::Rng;
+use setupbook_tests::tables;
+
+const LONGEST: usize = 4096;
+
+fn tests_folder() -> &'static Path {
+    Path::new(env!("CARGO_MANIFEST_DIR"))
+}
+
+/// In the folder that SETUPBOOK_PROGRAMS names, or in `../target/bin`.
+fn program() -> PathBuf {
+    let folder = std::env::var_os("SETUPBOOK_PROGRAMS").unwrap_or("../target/bin".into());
+    tests_folder().join(folder).join("setuplist")
+}
+
+/// What the program prints if it is given the input in pieces, with pauses between them.
+fn printed(pieces: &[&[u8]]) -> String {
+    let program = program();
+    let mut child = Command::new(&program)
+        .stdin(Stdio::piped())
+        .stdout(Stdio::piped())
+        .spawn()
+        .unwrap_or_else(|error| {
+            panic!(
+                "{}: {error}: build it first or set SETUPBOOK_PROGRAMS",
+                program.display()
+            )
+        });
+    let mut input = child.stdin.take().unwrap();
+    for (i, piece) in pieces.iter().enumerate() {
+        if i > 0 {
+            std::thread::sleep(Duration::from_millis(2));
+        }
+        // The program need not read what is too long to its end.
+        if input.write_all(piece).is_err() {
+            break;
+        }
+    }
+    drop(input);
+    let output = child.wait_with_output().unwrap();
+    assert!(output.status.code().is_some(), "ended by a signal");
+    String::from_utf8(output.stdout).unwrap()
+}
+
+/// The listing after the paper.
+fn listing(table: &[u8]) -> String {
+    if table.len() > LONGEST {
+        return "too long\n".to_string();
+    }
+    if let Some(refusal) = paper::refusals(Call::Count, table, usize::MAX).first() {
+        return format!("refused {} at {}\n", refusal.number, refusal.place);
+    }
+    let table = Table::read(table);
+    let counts = table.counts();
+    let total = table.total(&counts);
+    let (n, node_count) = (table.n, table.node_count);
+    let mut text = format!("vars {n} nodes {node_count} count {total}\n");
+    for rank in (0..256).take_while(|&rank| u128::from(rank) < total) {
+        let setup = digits(table.setup_number(rank, &counts), n as usize);
+        text += &format!("{rank} {setup}\n");
+    }
+    if total > 256 {
+        text += "more\n";
+    }
+    text
+}
+
+fn digits(setup: u64, n: usize) -> String {
+    match n {
+        0 => "-".to_string(),
+        _ => format!("{setup:0n$b}"),
+    }
+}
+
+/// The bytes of a table written as hexadecimal words, one a line; # starts a comment line.
+fn read_hex(text: &str) -> Vec<u8> {
+    let words: Vec<u64> = text
+        .lines()
+        .filter(|line| !line.starts_with('#'))
+        .map(|line| u64::from_str_radix(line, 16).unwrap())
+        .collect();
+    bytes_of(&words)
+}
+
+/// The names of the stored listings: each is a NAME.hex and a NAME.txt.
+fn stored_names(extension: &str) -> Vec<String> {
+    let mut names: Vec<String> = fs::read_dir(tests_folder().join("listings"))
+        .unwrap()
+        .map(|entry| entry.unwrap().path())
+        .filter(|path| path.extension().is_some_and(|found| found == extension))
+        .map(|path| path.file_stem().unwrap().to_str().unwrap().to_string())
+        .collect();
+    names.sort();
+    names
+}
+
+#[test]
+fn stored_listings() {
+    let names = stored_names("hex");
+    assert_eq!(names, stored_names("txt"));
+    assert_eq!(names.len(), 15);
+    for name in names {
+        let read = |extension: &str| {
+            let file = tests_folder().join(format!("listings/{name}.{extension}"));
+            fs::read_to_string(file).unwrap()
+        };
+        let (table, text) = (read_hex(&read("hex")), read("txt"));
+        assert_eq!(listing(&table), text, "{name}, by the paper");
+        assert_eq!(printed(&[&table]), text, "{name}, by the program");
+    }
+}
+
+#[test]
+fn lengths_of_the_input() {
+    for (len, text) in [
+        (0, "refused 1 at 0\n"),
+        (7, "refused 1 at 0\n"),
+        (8, "vars 0 nodes 0 count 1\n0 -\n"),
+        (9, "refused 1 at 0\n"),
+        (LONGEST - 1, "refused 1 at 0\n"),
+        (LONGEST, "refused 1 at 0\n"),
+        (LONGEST + 1, "too long\n"),
+        (LONGEST + 8, "too long\n"),
+        (2 * LONGEST, "too long\n"),
+        (1_000_000, "too long\n"),
+    ] {
+        let zeros = vec![0; len];
+        assert_eq!(printed(&[&zeros]), text, "{len} zero bytes");
+    }
+}
+
+#[test]
+fn input_in_pieces() {
+    let mut rng = Rng::new(Rng::seed_of_run());
+    let table = bytes_of(&tables::random_accepted(&mut rng, 12, 400));
+    let text = listing(&table);
+    for len in [table.len() / 40 + 1, table.len() / 3, table.len() - 1] {
+        let pieces: Vec<&[u8]> = table.chunks(len).collect();
+        assert_eq!(printed(&pieces), text);
+    }
+    assert_eq!(printed(&[&[0; LONGEST], &[0]]), "too long\n");
+}
+
+#[test]
+fn random_listings() {
+    let mut rng = Rng::new(Rng::seed_of_run());
+    for round in 0..200 {
+        let mut words = tables::of_any_size(&mut rng);
+        if round % 4 == 3 {
+            let refusal = rng.between(1, 9);
+            damage::aim(&mut rng, &mut words, refusal);
+        }
+        let table = bytes_of(&words);
+        assert_eq!(printed(&[&table]), listing(&table), "{words:016X?}");
+    }
+}
