@@ -36,7 +36,8 @@ fn rank_setup(table: &[u8], sheet: &[u8], n: u64, e: Edge, x: Setup) -> Ranked
         return Ranked::Refused(Refusal::SetupRange);
     }
     if checking::permitted_under(table, e, x) {
-        return Ranked::At(smaller::rank_under(table, sheet, e, x));
+        let r = smaller::rank_under(table, sheet, e, x);
+        return Ranked::At(r);
     }
     Ranked::Refused(Refusal::Unpermitted)
 }
@@ -46,10 +47,12 @@ fn unrank_setup(table: &[u8], sheet: &[u8], n: u64, e: Edge, r: Rank) -> Unranke
     requires { ⌜ Opens (now table) (now sheet) (e .value) n ⌝ }
     ensures { λ a. ⌜ unrankedAs a ≡ unrankSetup (r .0) n (under (wordAt (now (table .entry))) (e .value)) ⌝ }
 {
-    if counting::count_under(table, sheet, e, n) <= r.0 {
+    let c = counting::count_under(table, sheet, e, n);
+    if c <= r.0 {
         return Unranked::Refused(Refusal::RankRange);
     }
-    Unranked::To(descent::descend(table, sheet, n, e, r))
+    let x = descent::descend(table, sheet, n, e, r);
+    Unranked::To(x)
 }
 
 // Ranks a setup: how many permitted setups are smaller.

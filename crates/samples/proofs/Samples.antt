@@ -4,14 +4,17 @@ use lib.Dec.{lit≤}
 use Rattle.words.specs.Words.{beAt, wordAt, bytesOf}
 use Rattle.diagram.specs.Format.{highField, middleField, lowField, settings, nodes, root, height, thenEdge, elseEdge}
 use Rattle.diagram.specs.Meaning.{bit, branch, flip, holds, plain, under, permitted}
-use Rattle.diagram.specs.Count.{indicator, countBelow, someBelow, place, total}
+use Rattle.diagram.specs.Count.{indicator, countBelow, select, someBelow, place, total}
 use Rattle.diagram.specs.Reading.{opposite, edgeCount}
 use Rattle.diagram.specs.Answer.{value, andThen, each}
 use Rattle.diagram.specs.Rules.{misled, checkRecord, names, named, checkNamed, checkHeader, checkRecords, checkNames, checkDiagram, check}
 use Rattle.diagram.proofs.Counts.{total-root}
 use Rattle.diagram.proofs.Accept.{accepts-accepted}
 use Rattle.checking.specs.Operations.{checking, counting}
-use Rattle.samples.specs.Samples.{table, A, A′, full, single, empty, members, setups, sheet, All, samples}
+use Rattle.ranking.specs.Operations.{rankSetup, ranking, orTooHigh, unrankSetup, unranking}
+use Rattle.division.specs.Span.{size, start}
+use Rattle.division.specs.Operations.{noPart, spanOf, spanning}
+use Rattle.samples.specs.Samples.{table, A, A′, full, single, empty, members, setups, sheet, parts, All, samples}
 
 full-total : total (wordAt full) ≡ 9223372036854775808
 unfolding full table settings nodes root wordAt beAt bytesOf highField middleField lowField check checkHeader checkDiagram checkRecords checkNames each andThen height opposite edgeCount place countBelow plain holds indicator
@@ -24,5 +27,6 @@ unfolding full table sheet counting checking settings nodes root wordAt beAt byt
 full-count = ap value full-total
 
 pub samples-hold : All samples
-unfolding table A A′ full single empty members setups sheet All samples beAt wordAt bytesOf highField middleField lowField settings nodes root height thenEdge elseEdge bit branch flip holds plain under permitted indicator countBelow someBelow place total andThen each misled checkRecord names named checkNamed checkHeader checkRecords checkNames checkDiagram check checking counting
-samples-hold = (refl, (refl, (refl, (refl, (refl, (full-count, (refl, (refl, (refl, tt)))))))))
+unfolding table A A′ full single empty members setups sheet parts All samples beAt wordAt bytesOf highField middleField lowField settings nodes root height thenEdge elseEdge bit branch flip holds plain under permitted indicator countBelow select someBelow place total andThen each misled checkRecord names named checkNamed checkHeader checkRecords checkNames checkDiagram check checking counting rankSetup ranking orTooHigh unrankSetup unranking size start noPart spanOf spanning
+samples-hold =
+    (refl, (refl, (refl, (refl, (refl, (refl, (refl, (refl, (refl, (refl, (refl, (refl, (refl, (full-count, (refl, (refl, (refl, (refl, tt))))))))))))))))))

@@ -7,8 +7,10 @@ use Rattle.words.specs.Words.{wordAt, bytesOf}
 use Rattle.diagram.specs.Format.{settings}
 use Rattle.diagram.specs.Meaning.{permitted}
 use Rattle.diagram.specs.Count.{place}
-use Rattle.diagram.specs.Answer.{value}
+use Rattle.diagram.specs.Answer.{Answer, value, refusal}
 use Rattle.checking.specs.Operations.{counting}
+use Rattle.ranking.specs.Operations.{ranking, unranking}
+use Rattle.division.specs.Operations.{spanning}
 
 -- a table of N nodes, shown as hexadecimal digits
 unfoldable pub table : ℕ → ℕ → List ℕ
@@ -44,6 +46,10 @@ setups t = members (permitted (wordAt t)) (2 ^ settings (wordAt t))
 unfoldable pub sheet : ℕ → List ℕ
 sheet m = bytesOf (8 * m) 0
 
+-- starts and sizes of the parts of A, of k
+unfoldable pub parts : ℕ → List ℕ → List (Answer (ℕ × ℕ))
+parts k indexes = map (λ j. spanning A k j (sheet 4)) indexes
+
 -- every statement of a list holds
 unfoldable pub All : List (Type 0) → Type 0
 All [] = Unit {0}
@@ -56,8 +62,18 @@ samples =
     ∷ (setups A ≡ 0 ∷ 1 ∷ 2 ∷ 3 ∷ 4 ∷ 7 ∷ [])
     ∷ (counting A′ (sheet 4) ≡ value 2)
     ∷ (setups A′ ≡ 5 ∷ 6 ∷ [])
+    ∷ (ranking A 7 (sheet 4) ≡ value 5)
+    ∷ (ranking A 5 (sheet 4) ≡ refusal 13 0)
+    ∷ (ranking A 8 (sheet 4) ≡ refusal 12 0)
+    ∷ (unranking A 4 (sheet 4) ≡ value 4)
+    ∷ (unranking A 5 (sheet 4) ≡ value 7)
+    ∷ (unranking A 6 (sheet 4) ≡ refusal 14 0)
+    ∷ (parts 4 (0 ∷ 1 ∷ 2 ∷ 3 ∷ []) ≡ value (0, 2) ∷ value (2, 2) ∷ value (4, 1) ∷ value (5, 1) ∷ [])
+    ∷ (parts 8 (0 ∷ 1 ∷ 2 ∷ 3 ∷ 4 ∷ 5 ∷ 6 ∷ 7 ∷ [])
+    ≡ value (0, 1) ∷ value (1, 1) ∷ value (2, 1) ∷ value (3, 1) ∷ value (4, 1) ∷ value (5, 1) ∷ value (6, 0) ∷ value (6, 0) ∷ [])
     ∷ (counting full (sheet 1) ≡ value 9223372036854775808)
     ∷ (counting single (sheet 1) ≡ value 1)
     ∷ (setups single ≡ 0 ∷ [])
     ∷ (counting empty (sheet 1) ≡ value 0)
+    ∷ (unranking empty 0 (sheet 1) ≡ refusal 14 0)
     ∷ []

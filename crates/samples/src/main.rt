@@ -1,10 +1,14 @@
-// Runs the paper's samples of checking, counting and testing, and prints a line for each.
+// Runs the paper's samples, and prints a line for each.
 use checking::Checked;
 use checking::Counted;
 use checking::Shape;
 use checking::Tested;
+use diagram::Rank;
 use diagram::Setup;
+use division::Spanned;
 use libc::STDOUT_FILENO;
+use ranking::Ranked;
+use ranking::Unranked;
 use rules::Refusal;
 
 // Table A.
@@ -200,9 +204,82 @@ fn sheet_too_short() {
     say(b"\n");
 }
 
+// The rank of a setup in A.
+fn rank_of(x: u64) {
+    say(b"A, rank of");
+    say_number(x);
+    say(b":");
+    let a = bytes_of(&A);
+    let mut sheet = [0u8; 32];
+    let ranked = ranking::rank(&a, Setup(x), &mut sheet);
+    match ranked {
+        Ranked::At(r) => say_number(r.0),
+        Ranked::Refused(r) => say_refusal(r),
+    }
+    say(b"\n");
+}
+
+// The setup of a number, in a table of four words at most.
+fn setup_of(name: &[u8], table: &[u8], r: u64) {
+    say(name);
+    say(b", number");
+    say_number(r);
+    say(b":");
+    let mut sheet = [0u8; 32];
+    let unranked = ranking::unrank(table, Rank(r), &mut sheet);
+    match unranked {
+        Unranked::To(x) => say_number(x.0),
+        Unranked::Refused(r) => say_refusal(r),
+    }
+    say(b"\n");
+}
+
+// The size of part j of k of A.
+fn say_size(k: u64, j: u64) {
+    let a = bytes_of(&A);
+    let mut sheet = [0u8; 32];
+    let spanned = division::span(&a, k, j, &mut sheet);
+    match spanned {
+        Spanned::Part(p) => say_number(p.size),
+        Spanned::Refused(r) => say_refusal(r),
+    }
+}
+
+// The sizes of the first `shown` parts of k of A.
+fn sizes(k: u64, shown: u64) {
+    say(b"A, k =");
+    say_number(k);
+    say(b", sizes:");
+    for j in 0..shown {
+        say_size(k, j);
+    }
+    say(b"\n");
+}
+
+fn numbers() {
+    rank_of(7);
+    rank_of(5);
+    rank_of(8);
+    let a = bytes_of(&A);
+    setup_of(b"A", &a, 4);
+    setup_of(b"A", &a, 5);
+    setup_of(b"A", &a, 6);
+    let empty = bytes_of(&[0x0C00000000000001]);
+    setup_of(b"0C00000000000001", &empty[0..8], 0);
+}
+
+fn parts() {
+    sizes(4, 4);
+    sizes(8, 8);
+    sizes(65535, 8);
+    sizes(65536, 1);
+}
+
 fn main() {
     refused_tables();
     accepted_tables();
     setup_too_large();
     sheet_too_short();
+    numbers();
+    parts();
 }
