@@ -2,8 +2,11 @@
 ghost use Prim.Native.Nat.{_≤_, _<_};
 use checking::Counted;
 use checking::Tested;
+use diagram::Rank;
 use diagram::Setup;
 use libc::STDOUT_FILENO;
+use ranking::Ranked;
+use ranking::Unranked;
 
 // Table A.
 const A: [u64; 4] = [
@@ -241,6 +244,58 @@ fn setups_differ(table: &[u8], root: u64, setups: u64) -> u64
     differences
 }
 
+// 2^63, above every rank and setup.
+const REFUSED: u64 = 0x8000000000000000;
+
+// The library's rank of setup x, or 2^63 and the refusal.
+fn ranked(table: &[u8], x: u64) -> u64 {
+    let mut sheet = [0u8; 128];
+    let answer = ranking::rank(table, Setup(x), &mut sheet);
+    match answer {
+        Ranked::At(r) => r.0,
+        Ranked::Refused(r) => REFUSED + rules::number_of(r),
+    }
+}
+
+// The library's setup of rank r, or 2^63 and the refusal.
+fn unranked(table: &[u8], r: u64) -> u64 {
+    let mut sheet = [0u8; 128];
+    let answer = ranking::unrank(table, Rank(r), &mut sheet);
+    match answer {
+        Unranked::To(x) => x.0,
+        Unranked::Refused(r) => REFUSED + rules::number_of(r),
+    }
+}
+
+// 0 if the library ranks setup x, which comes after `before` permitted ones, as the reader does, and comes back to it; else 1.
+fn rank_differs(table: &[u8], root: u64, x: u64, before: u64) -> u64
+    ensures { λ r. ⌜ r ≤ 1 ⌝ }
+{
+    let rank = ranked(table, x);
+    if found(table, root, x) == 0 {
+        return if rank == REFUSED + 13 { 0 } else { 1 };
+    }
+    if rank != before {
+        return 1;
+    }
+    if unranked(table, rank) == x { 0 } else { 1 }
+}
+
+// In how many setups the library's ranks differ from the reader's numbering.
+fn ranks_differ(table: &[u8], root: u64, setups: u64) -> u64
+    ensures { λ r. ⌜ r ≤ setups ⌝ }
+{
+    let mut differences = 0;
+    let mut before = 0;
+    let mut x = 0;
+    while x < setups {
+        differences += rank_differs(table, root, x, before);
+        before += found(table, root, x);
+        x += 1;
+    }
+    differences
+}
+
 // 0 if place k agrees with the reader's count under a plain edge to node k, else 1.
 fn place_differs(table: &[u8], sheet: &[u8], k: usize) -> u64
     ensures { λ r. ⌜ r ≤ 1 ⌝ }
@@ -300,13 +355,14 @@ fn compare(name: &[u8], table: &[u8]) {
     let counted = checking::count(table, &mut sheet);
     let differences = total_differs(counted, permitted)
         + setups_differ(table, root, setups)
+        + ranks_differ(table, root, setups)
         + places_differ(table, &sheet, places);
     say(name);
     say(b": ");
     say_number(permitted);
     say(b" permitted, ");
     say_number(setups);
-    say(b" setups and ");
+    say(b" setups, their ranks and ");
     say_number(places as u64);
     say(b" places compared, ");
     say_number(differences);
