@@ -1,15 +1,14 @@
 -- An operation after the check: its refusal is handed on, and otherwise the table is accepted and the sheet holds the counts. Assumes nothing.
 use Prim.Native.Nat.{ℕ, _+_, _*_, _/_, _%_, _^_, _≤_, _<_}
 use mathlib.Core.Path.{_≡_, sym, ap, _∙_}
-use mathlib.Core.Bool.{Bool, cond}
-use lib.Dec.{leb}
+use mathlib.Core.Bool.{Bool}
 use mathlib.Core.List.{List}
 use native.Mathlib.Omega.{arith}
 use lib.ListN.{length}
 use borrow.Author.Tests.{le-leb, lt-leb}
 use Rattle.words.specs.Words.{wordAt, wordsOver}
 use Rattle.words.proofs.Laws.{words-read, length-wordsOver}
-use Rattle.diagram.specs.Format.{Words, settings, height}
+use Rattle.diagram.specs.Format.{Words, settings}
 use Rattle.diagram.specs.Meaning.{under, permitted}
 use Rattle.diagram.specs.Count.{countBelow, place, total}
 use Rattle.diagram.specs.Answer.{Answer, value, refusal, andThen}
@@ -21,7 +20,7 @@ use Rattle.checking.specs.declared.Checked.{Checked}
 use Rattle.checking.specs.declared.Checked.the-variants.{Table}
 use Rattle.checking.specs.declared.Shape.{Shape}
 use Rattle.checking.specs.Answers.{checkedAs}
-use Rattle.checking.specs.Operations.{checking, counting, testSetup, testing, sheetBy, sheetAfter}
+use Rattle.checking.specs.Operations.{checking, counting, testSetup, sheetBy, sheetAfter}
 use Rattle.counting.specs.Inner.{Filled, Opens}
 use Rattle.counting.proofs.Places.{one-shl, place-fits}
 
@@ -109,14 +108,12 @@ module _ (t s out : List ℕ) (a : Checked) (is : (checkedAs a ≡ checking t s)
       unfolding counting total
       counted c q′ = answered (λ n P. value (countBelow P (2 ^ n))) (value c) (ap value q′)
 
-      -- testing
-      asked : ℕ → ℕ → (ℕ → Bool) → Answer Bool
-      asked x n P = cond (leb (2 ^ n) x) (refusal 12 0) (value (P x))
+-- testing from an edge on
+module _ (n x : ℕ) (P : ℕ → Bool) (few : n ≤ 63) where
+  pub too-large : 1 * 2 ^ n % 18446744073709551616 ≤ x → refusal 12 0 ≡ testSetup x n P
+  unfolding testSetup
+  too-large l = rw (le-leb (2 ^ n) x (rw (one-shl n few) at l))
 
-      pub too-large : (x : ℕ) → 1 * 2 ^ n % 18446744073709551616 ≤ x → refusal 12 0 ≡ testing t x s
-      unfolding testing testSetup asked
-      too-large x l = answered (asked x) (refusal 12 0) (rw (le-leb (2 ^ n) x (rw (one-shl n (h .few-settings)) at l)))
-
-      pub tested : (x : ℕ) (b : Bool) → x < 1 * 2 ^ n % 18446744073709551616 → b ≡ under w e x → value b ≡ testing t x s
-      unfolding testing testSetup asked
-      tested x b l q′ = answered (asked x) (value b) (rw (lt-leb (2 ^ n) x (rw (one-shl n (h .few-settings)) at l), q′))
+  pub tested : x < 1 * 2 ^ n % 18446744073709551616 → (b : Bool) → b ≡ P x → value b ≡ testSetup x n P
+  unfolding testSetup
+  tested l b q = rw (lt-leb (2 ^ n) x (rw (one-shl n few) at l), q)

@@ -19,13 +19,13 @@ checking table sheet = check table (length sheet / 8) (λ N. N + 1)
 unfoldable pub counting : List ℕ → List ℕ → Answer ℕ
 counting table sheet = andThen (checking table sheet) (λ _. value (total (wordAt table)))
 
--- rule 12, and whether a table permits setup x
-unfoldable pub testSetup : Words → ℕ → Answer Bool
-testSetup w x = cond (leb (2 ^ settings w) x) (refusal 12 0) (value (permitted w x))
+-- rule 12, and whether P permits setup x of n settings
+unfoldable pub testSetup : ℕ → ℕ → (ℕ → Bool) → Answer Bool
+testSetup x n P = cond (leb (2 ^ n) x) (refusal 12 0) (value (P x))
 
 -- testing: whether setup x is permitted, after the table's own refusals
 unfoldable pub testing : List ℕ → ℕ → List ℕ → Answer Bool
-testing table x sheet = andThen (checking table sheet) (λ _. testSetup (wordAt table) x)
+testing table x sheet = andThen (checking table sheet) (λ _. testSetup x (settings (wordAt table)) (permitted (wordAt table)))
 
 -- the sheet after an answer of the check, of N nodes: the counts; or zeros, after 9; or untouched. Past place N, and in spare bytes, it is always as before
 unfoldable pub sheetBy : {A : Type 0} → Words → ℕ → Answer A → List ℕ → List ℕ

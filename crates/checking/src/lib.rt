@@ -3,15 +3,18 @@ mod walk;
 
 pub use walk::permitted_under;
 ghost use mathlib.Core.Path.{_≡_};
-ghost use Prim.Native.Nat.{_+_, _*_, _≤_};
+ghost use Prim.Native.Nat.{_+_, _*_, _/_, _≤_};
 ghost use lib.ListN.{length};
 ghost use Rattle.words.specs.Words.{wordAt};
+ghost use Rattle.diagram.specs.Meaning.{under};
 ghost use Rattle.diagram.specs.Answer.{refusal};
 ghost use Rattle.diagram.specs.Rules.{checkDiagram};
+ghost use Rattle.diagram.specs.Reading.{Within};
 ghost use Rattle.rules.specs.Refusals.{numberOf, placeOf, verdictAs};
 ghost use Rattle.checking.specs.Answers.{checkedAs, countedAs, testedAs};
-ghost use Rattle.checking.specs.Operations.{checking, counting, testing, sheetBy, sheetAfter};
+ghost use Rattle.checking.specs.Operations.{checking, counting, testSetup, testing, sheetBy, sheetAfter};
 ghost use Rattle.checking.specs.Inner.{IsRefused};
+use diagram::Edge;
 use diagram::Setup;
 use rules::Refusal;
 use rules::Verdict;
@@ -100,6 +103,17 @@ pub fn count(table: &[u8], sheet: &mut [u8]) -> Counted
     Counted::Total(c)
 }
 
+// Rule 12, and whether edge e permits setup x of n settings.
+fn test_setup(table: &[u8], n: u64, e: Edge, x: Setup) -> Tested
+    requires { ⌜ Within (now table) (e .value / 2) × (n ≤ 63) ⌝ }
+    ensures { λ r. ⌜ testedAs r ≡ testSetup (x .0) n (under (wordAt (now (table .entry))) (e .value)) ⌝ }
+{
+    if 1 << n <= x.0 {
+        return Tested::Refused(Refusal::SetupRange);
+    }
+    Tested::Permitted(permitted_under(table, e, x))
+}
+
 // Tests whether a setup is permitted.
 pub fn test(table: &[u8], x: Setup, sheet: &mut [u8]) -> Tested
     ensures { λ r. ⌜ (testedAs r ≡ testing (now (table .entry)) (x .0) (now (sheet .entry)))
@@ -110,8 +124,5 @@ pub fn test(table: &[u8], x: Setup, sheet: &mut [u8]) -> Tested
         return Tested::Refused(refusal_of(checked));
     };
     let header = diagram::header_of(table);
-    if 1 << header.settings <= x.0 {
-        return Tested::Refused(Refusal::SetupRange);
-    }
-    Tested::Permitted(walk::permitted_under(table, header.root, x))
+    test_setup(table, header.settings, header.root, x)
 }

@@ -1,5 +1,5 @@
 -- Counting the setups that an edge permits, where the places are filled. Assumes nothing.
-use Prim.Native.Nat.{ℕ, _+_, _*_, _/_, _%_, _^_, _≤_, _<_}
+use Prim.Native.Nat.{ℕ, _+_, _*_, _/_, _%_, _^_, _≤_}
 use mathlib.Core.Path.{_≡_, sym, ap, _∙_}
 use mathlib.Core.List.{List}
 use native.Mathlib.Omega.{arith}
@@ -8,10 +8,10 @@ use Rattle.words.specs.Words.{wordAt}
 use Rattle.words.proofs.Cases.{less, same, more, tri}
 use Rattle.diagram.specs.Format.{Words, height}
 use Rattle.diagram.specs.Meaning.{under}
-use Rattle.diagram.specs.Count.{countBelow, place}
+use Rattle.diagram.specs.Count.{countBelow}
 use Rattle.diagram.specs.Reading.{Within, edgeCount}
 use Rattle.diagram.proofs.Counts.{count-edge}
-use Rattle.counting.specs.Inner.{Ready, Filled, Opens}
+use Rattle.counting.specs.Inner.{Filled, Opens}
 use Rattle.counting.proofs.Places.{Countable, countable}
 
 module _ (t s : List ℕ) (k : ℕ) (F : Filled t s k) where

@@ -12,7 +12,7 @@ use Rattle.diagram.specs.Count.{indicator}
 use Rattle.diagram.specs.Ordered.{Ordered}
 use Rattle.diagram.specs.Reading.{turn, cofactor}
 use Rattle.diagram.proofs.Bits.{withBit, with-mod}
-use Rattle.diagram.proofs.Paths.{Lower, side, side-lower}
+use Rattle.diagram.proofs.Paths.{side, side-lower}
 use Rattle.diagram.proofs.Local.{under-agree, plain-with}
 
 -- a turned edge leads to the same node

@@ -1,12 +1,12 @@
 -- Rule 15 and the span of a part, in the terms of the code. Assumes nothing.
 use Prim.Native.Nat.{ℕ, suc, _+_, _-_, _*_, _/_, _^_, _≤_, _<_}
-use mathlib.Core.Path.{_≡_, refl, sym, ap, _∙_}
+use mathlib.Core.Path.{_≡_, sym, _∙_}
 use mathlib.Core.Bool.{Bool, true, false, _||_}
 use native.Mathlib.Omega.{arith}
 use native.Mathlib.Nat.{mul-div-le}
 use lib.Dec.{eqb, ltb, leb}
-use borrow.Author.Tests.{eqb-false, ltb-false, leb-false, lt-ltb, le-ltb, eq-eqb, ne-eqb}
-use Rattle.words.proofs.Cases.{or-false, or-either}
+use borrow.Author.Tests.{eqb-false, leb-false, lt-ltb, le-ltb, eq-eqb, ne-eqb}
+use Rattle.words.proofs.Cases.{or-false}
 use Rattle.diagram.specs.Count.{indicator, countBelow}
 use Rattle.diagram.specs.Answer.{Answer, value, refusal}
 use Rattle.division.specs.Span.{size, start}

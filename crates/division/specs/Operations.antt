@@ -1,5 +1,5 @@
 -- The span of a part: what is answered. The sheet is left as the check does (`sheetAfter`). Assumes nothing.
-use Prim.Native.Nat.{ℕ, _^_}
+use Prim.Native.Nat.{ℕ}
 use mathlib.Core.Bool.{Bool, cond, _||_}
 use mathlib.Core.List.{List}
 use lib.Dec.{eqb, ltb, leb}

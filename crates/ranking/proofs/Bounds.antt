@@ -1,5 +1,5 @@
 -- The answers of ranking and unranking fit the packed form: places up to 65,535, and values below 2 ^ 63, so no value can be taken for a refusal. Assumes nothing.
-use Prim.Native.Nat.{ℕ, _/_, _^_, _≤_, _<_}
+use Prim.Native.Nat.{ℕ, _^_, _≤_, _<_}
 use mathlib.Core.Path.{_≡_}
 use mathlib.Core.Bool.{Bool, true, false, cond}
 use mathlib.Core.List.{List}
@@ -14,7 +14,7 @@ use Rattle.words.proofs.Laws.{word-fits}
 use Rattle.diagram.specs.Format.{highField, settings}
 use Rattle.diagram.specs.Meaning.{permitted}
 use Rattle.diagram.specs.Count.{countBelow, select}
-use Rattle.diagram.specs.Answer.{Answer, value, refusal}
+use Rattle.diagram.specs.Answer.{value, refusal}
 use Rattle.diagram.proofs.CountLaws.{count-le}
 use Rattle.diagram.proofs.Refusals.{Refuses, refuses, passes, unless, then-refuses}
 use Rattle.checking.specs.Operations.{checking}

@@ -1,6 +1,6 @@
 -- Demand 2, as theorems: ranking and unranking undo each other, ranks rise with the setups, and the numbers below the count are just those that are unranked. Assumes nothing.
-use Prim.Native.Nat.{ℕ, _^_, _≤_, _<_}
-use mathlib.Core.Path.{_≡_, refl, sym, ap, _∙_}
+use Prim.Native.Nat.{ℕ, _^_, _<_}
+use mathlib.Core.Path.{_≡_, refl, ap, _∙_}
 use mathlib.Core.Bool.{Bool, true, false, cond}
 use mathlib.Core.List.{List}
 use mathlib.Core.Option.{Option, none, some}
@@ -12,7 +12,7 @@ use Rattle.words.proofs.Cases.{passed}
 use Rattle.diagram.specs.Format.{settings}
 use Rattle.diagram.specs.Meaning.{permitted}
 use Rattle.diagram.specs.Count.{countBelow, select, total}
-use Rattle.diagram.specs.Answer.{Answer, value, refusal, andThen}
+use Rattle.diagram.specs.Answer.{value, refusal, andThen}
 use Rattle.diagram.proofs.CountLaws.{count-mono-lt}
 use Rattle.diagram.proofs.AnswerLaws.{refused-not, value-inj, then-some}
 use Rattle.diagram.proofs.Select.{Selected, select-some, select-of, ranked}

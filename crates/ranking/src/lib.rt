@@ -3,8 +3,6 @@ mod descent;
 mod smaller;
 
 ghost use mathlib.Core.Path.{_≡_};
-ghost use Prim.Native.Nat.{_+_, _/_, _<_, _^_};
-ghost use mathlib.Core.Option.{some};
 ghost use Rattle.words.specs.Words.{wordAt};
 ghost use Rattle.diagram.specs.Meaning.{under};
 ghost use Rattle.checking.specs.Operations.{sheetAfter};

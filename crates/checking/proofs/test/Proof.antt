@@ -1,9 +1,9 @@
--- `checking::test` meets its contract. Assumes nothing.
+-- `checking::test` meets its contract: the check, then `test_setup` from the root edge. Assumes nothing.
 use mathlib.Core.Path.{sym, subst}
 use borrow.Author.Needs.{needs}
 use Rattle.checking.specs.Inner.{IsRefused}
-use Rattle.checking.specs.Operations.{testing}
-use Rattle.checking.proofs.Accepting.{handed-on, table-long, root-within, too-large, tested}
+use Rattle.checking.proofs.Accepting.{handed-on, table-long, root-within, answered}
+use Rattle.checking.specs.Operations.{testSetup, testing}
 use Rattle.checking.proofs.test.Statement.{statement}
 use Rattle.checking.proofs.test.Tie as tie
 
@@ -12,22 +12,27 @@ refusal-of-requires c κs = subst IsRefused (sym (c .enum-told2 .given .1)) tt
 
 returns : tie.Need-returns
 unfolding testing
-returns c = (handed-on _ _ _ (c .before .before .before .before .before .check .result) (c .before .before .before .before .before .check .ensures) _ _ _ (c .refusal-of .ensures), c .before .before .before .before .before .check .ensures .1)
+returns c =
+    let a = c .before .before .before .before .before in
+    (handed-on _ _ _ (a .check .result) (a .check .ensures) _ _ _ (c .refusal-of .ensures), a .check .ensures .1)
 
 header-of-requires : tie.Need-header-of-requires
 header-of-requires c κs = table-long _ _ _ _ (c .before .before .before .before .check .ensures) _ (c .enum-told .given .1)
 
+test-setup-requires : tie.Need-test-setup-requires
+test-setup-requires c κs =
+    let h = c .header-of .ensures in
+    (root-within _ _ _ _ (c .before .before .before .before .before .check .ensures) _ (c .before .enum-told .given .1) _ _ _ h, h .few-settings)
+
 returns-2 : tie.Need-returns-2
-returns-2 c = (too-large _ _ _ _ (c .before .before .before .before .before .before .before .before .check .ensures) _ (c .before .before .before .before .enum-told .given .1) _ _ _ (c .before .before .before .header-of .ensures) _ (c .if1 .taken), c .before .before .before .before .before .before .before .before .check .ensures .1)
-
-permitted-under-requires : tie.Need-permitted-under-requires
-permitted-under-requires c κs = root-within _ _ _ _ (c .before .before .before .before .before .before .before .before .check .ensures) _ (c .before .before .before .before .enum-told .given .1) _ _ _ (c .before .before .before .header-of .ensures)
-
-returns-3 : tie.Need-returns-3
-returns-3 c = (tested _ _ _ _ (c .before .before .before .before .before .before .before .before .before .check .ensures) _ (c .before .before .before .before .before .enum-told .given .1) _ _ _ (c .before .before .before .before .header-of .ensures) _ _ (c .before .if1 .left) (c .permitted-under .ensures), c .before .before .before .before .before .before .before .before .before .check .ensures .1)
+unfolding testing
+returns-2 c =
+    let a = c .before in
+    let is = a .before .before .before .before .before .check .ensures in
+    (answered _ _ _ _ is _ (a .before .enum-told .given .1) _ _ _ (a .header-of .ensures) (testSetup _) _ (c .test-setup .ensures), is .1)
 
 pub test-spec : {M : Type 1} → statement M
 test-spec =
     tie.close
     (tie.spec (λ c κs. search needs) (λ c. search needs) (λ c. search needs) refusal-of-requires (λ c. search needs) returns
-    header-of-requires (λ c. search needs) (λ c. search needs) returns-2 permitted-under-requires (λ c. search needs) returns-3)
+    header-of-requires test-setup-requires (λ c. search needs) returns-2)

@@ -1,6 +1,4 @@
 -- `ranking::unrank_setup` meets its contract. Assumes nothing.
-use mathlib.Core.Path.{subst}
-use native.Mathlib.Omega.{arith}
 use borrow.Author.Needs.{needs}
 use Rattle.ranking.proofs.Answering.{too-high, unranked-to}
 use Rattle.ranking.proofs.unrank_setup.Statement.{statement}

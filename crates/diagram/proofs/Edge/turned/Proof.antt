@@ -1,5 +1,5 @@
 -- `diagram::Edge::turned` meets its contract. Assumes nothing.
-use mathlib.Core.Path.{_≡_, refl}
+use mathlib.Core.Path.{refl}
 use borrow.Author.Needs.{needs}
 use Rattle.diagram.specs.Count.{indicator}
 use Rattle.diagram.specs.Reading.{turn}

@@ -1,6 +1,5 @@
 -- `ranking::descent::cofactors_of` meets its contract. Assumes nothing.
 use mathlib.Core.Bool.{true, false}
-use native.Mathlib.Omega.{arith}
 use borrow.Author.Needs.{needs}
 use Rattle.diagram.proofs.Cofactor.{passes-below, goes-on}
 use Rattle.ranking.proofs.Opening.{within-room, high-node}

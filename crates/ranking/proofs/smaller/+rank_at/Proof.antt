@@ -1,6 +1,5 @@
 -- `ranking::smaller::rank_at` meets its contract. Its measure is the height of its node. Assumes nothing.
 use Prim.Native.Nat.{ℕ}
-use mathlib.Core.Path.{sym, ap, _∙_}
 use native.Mathlib.Omega.{arith}
 use borrow.Author.Needs.{needs}
 use borrow.Fn.PlainCycle.{Measures}
