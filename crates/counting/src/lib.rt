@@ -38,10 +38,10 @@ pub fn count_under(table: &[u8], sheet: &[u8], e: Edge, h: u64) -> u64
 }
 
 // The count of node k, by the fields of its record and the places of the nodes below it.
-fn count_node(table: &[u8], sheet: &[u8], k: usize, fields: Record) -> u64
-    requires { ⌜ (0 < k) × Ready (now table) (now sheet) k
-        × IsRecord (wordAt (now table)) k (fields .height) (fields .high .value) (fields .low .value) ⌝ }
-    ensures { λ r. ⌜ (r ≡ place (wordAt (now (table .entry))) k) × (r < 18446744073709551616) ⌝ }
+fn count_node(table: &[u8], sheet: &[u8], k: Node, fields: Record) -> u64
+    requires { ⌜ (0 < k .0) × Ready (now table) (now sheet) (k .0)
+        × IsRecord (wordAt (now table)) (k .0) (fields .height) (fields .high .value) (fields .low .value) ⌝ }
+    ensures { λ r. ⌜ (r ≡ place (wordAt (now (table .entry))) (k .0)) × (r < 18446744073709551616) ⌝ }
 {
     let a = diagram::height_at(table, fields.high.node());
     let b = diagram::height_at(table, fields.low.node());
@@ -61,16 +61,16 @@ fn mark_named(marks: &mut [u8], fields: Record)
 }
 
 // Fills place k with the count of node k, and marks the nodes that its record names.
-fn enter_node(table: &[u8], sheet: &mut [u8], marks: &mut [u8], k: usize, word: u64)
-    requires { ⌜ (0 < k) × Ready (now table) (now sheet) k × (word ≡ wordAt (now table) k)
-        × (k < length (now marks)) × Marked (now marks) (k - 1) (wordAt (now table)) ⌝ }
-    ensures { λ _. ⌜ (now (sheet .exit) ≡ putWord (now (sheet .entry)) k (place (wordAt (now (table .entry))) k))
-        × (length (now (marks .exit)) ≡ length (now (marks .entry))) × Marked (now (marks .exit)) k (wordAt (now (table .entry))) ⌝ }
+fn enter_node(table: &[u8], sheet: &mut [u8], marks: &mut [u8], k: Node, word: u64)
+    requires { ⌜ (0 < k .0) × Ready (now table) (now sheet) (k .0) × (word ≡ wordAt (now table) (k .0))
+        × (k .0 < length (now marks)) × Marked (now marks) (k .0 - 1) (wordAt (now table)) ⌝ }
+    ensures { λ _. ⌜ (now (sheet .exit) ≡ putWord (now (sheet .entry)) (k .0) (place (wordAt (now (table .entry))) (k .0)))
+        × (length (now (marks .exit)) ≡ length (now (marks .entry))) × Marked (now (marks .exit)) (k .0) (wordAt (now (table .entry))) ⌝ }
 {
     let fields = Record::of(word);
     mark_named(marks, fields);
     let c = count_node(table, sheet, k, fields);
-    words::put_word(sheet, k, c);
+    words::put_word(sheet, k.0, c);
 }
 
 // Fills places 0 to N with the counts, and marks the nodes that a record names.
@@ -86,7 +86,7 @@ fn count_nodes(table: &[u8], sheet: &mut [u8], marks: &mut [u8], n: u64, nodes: 
         k += 1;
         let this = word;
         word = diagram::word_after(table, k, nodes);
-        enter_node(table, sheet, marks, k, this);
+        enter_node(table, sheet, marks, Node(k), this);
     }
 }
 

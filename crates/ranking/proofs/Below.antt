@@ -71,9 +71,13 @@ module _ (t s : List ℕ) (k y e c rest : ℕ) (F : Filled t s k) (T : Turns (wo
   pub falls : (v m : ℕ) → v ≡ e / 2 → height (wordAt t) k ≡ m → height (wordAt t) v < m
   falls v m i q = rw i (omega (arith, T .low))
 
-  pub node-sum : (r : ℕ) → r ≡ countBelow (under (wordAt t) e) rest → y < 2 ^ height (wordAt t) k → (c + r ≡ countBelow (plain (wordAt t) k) y) × (c + r < 18446744073709551616)
-  node-sum r q l =
+  -- the half passed over, and what is under the edge
+  pub node-sum : (v g block inside r : ℕ) → v ≡ e / 2 → g ≡ height (wordAt t) v → block ≡ countBelow (under (wordAt t) e) (2 ^ g)
+      → inside ≡ countBelow (plain (wordAt t) v) (rest % (1 * 2 ^ g % 18446744073709551616)) → r ≡ rest / 2 ^ g * block + opposite (e % 2) (rest % 2 ^ g) inside
+      → y < 2 ^ height (wordAt t) k → (c + r ≡ countBelow (plain (wordAt t) k) y) × (c + r < 18446744073709551616)
+  node-sum v g block inside r v-is g-is block-is inside-is r-is l =
       let W = F .ready .within in
+      let q : r ≡ countBelow (under (wordAt t) e) rest = edge-sum t s e v rest turned v-is g g-is block inside block-is inside-is r r-is in
       let u : c + r ≡ countBelow (plain (wordAt t) k) y = rw q (sym (T .sum)) in
       let h : height (wordAt t) k < 64 = omega (arith, height-le-settings (wordAt t) (W .settings) (W .nodes) (W .holds .ordered) k (W .inside), W .holds .few-settings) in
       (u, omega (arith, u, count-le (plain (wordAt t) k) y, pow-lt {i = height (wordAt t) k} {j = 64} h))

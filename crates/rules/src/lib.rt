@@ -114,21 +114,21 @@ pub fn check_header(table: &[u8], places: usize, each: usize, more: usize) -> Ve
 }
 
 // Whether edge e of record k, of height h, leads to a node not below k or to one not below h.
-fn is_misled(table: &[u8], k: usize, h: u64, e: Edge) -> bool
-    requires { ⌜ (h ≡ height (wordAt (now table)) k) × (8 * k + 8 ≤ length (now table)) ⌝ }
-    ensures { λ r. ⌜ r ≡ misled (wordAt (now (table .entry))) k (e .value) ⌝ }
+fn is_misled(table: &[u8], k: Node, h: u64, e: Edge) -> bool
+    requires { ⌜ (h ≡ height (wordAt (now table)) (k .0)) × (8 * k .0 + 8 ≤ length (now table)) ⌝ }
+    ensures { λ r. ⌜ r ≡ misled (wordAt (now (table .entry))) (k .0) (e .value) ⌝ }
 {
     let node = e.node();
-    if k <= node.0 {
+    if k.0 <= node.0 {
         return true;
     }
     h <= diagram::height_at(table, node)
 }
 
 // Whether one of the edges of record k does.
-fn has_misled(table: &[u8], k: usize, fields: Record) -> bool
-    requires { ⌜ (fields .height ≡ height (wordAt (now table)) k) × (8 * k + 8 ≤ length (now table)) ⌝ }
-    ensures { λ r. ⌜ r ≡ (misled (wordAt (now (table .entry))) k (fields .high .value) || misled (wordAt (now (table .entry))) k (fields .low .value)) ⌝ }
+fn has_misled(table: &[u8], k: Node, fields: Record) -> bool
+    requires { ⌜ (fields .height ≡ height (wordAt (now table)) (k .0)) × (8 * k .0 + 8 ≤ length (now table)) ⌝ }
+    ensures { λ r. ⌜ r ≡ (misled (wordAt (now (table .entry))) (k .0) (fields .high .value) || misled (wordAt (now (table .entry))) (k .0) (fields .low .value)) ⌝ }
 {
     if is_misled(table, k, fields.height, fields.high) {
         return true;
@@ -137,31 +137,31 @@ fn has_misled(table: &[u8], k: usize, fields: Record) -> bool
 }
 
 // Rules 4 to 8, of record k, which is `word` and comes after `before`.
-fn check_record(table: &[u8], n: u64, k: usize, word: u64, before: u64) -> Verdict
-    requires { ⌜ (0 < k) × (8 * k + 8 ≤ length (now table)) × (word ≡ wordAt (now table) k) × (before ≡ previous (wordAt (now table)) k) ⌝ }
-    ensures { λ r. ⌜ verdictAs r ≡ checkRecord (wordAt (now (table .entry))) n k ⌝ }
+fn check_record(table: &[u8], n: u64, k: Node, word: u64, before: u64) -> Verdict
+    requires { ⌜ (0 < k .0) × (8 * k .0 + 8 ≤ length (now table)) × (word ≡ wordAt (now table) (k .0)) × (before ≡ previous (wordAt (now table)) (k .0)) ⌝ }
+    ensures { λ r. ⌜ verdictAs r ≡ checkRecord (wordAt (now (table .entry))) n (k .0) ⌝ }
 {
     let record = Record::of(word);
     let h = record.height;
     if h == 0 {
-        return Verdict::Refused(Refusal::Height(Node(k)));
+        return Verdict::Refused(Refusal::Height(k));
     }
     if n < h {
-        return Verdict::Refused(Refusal::Height(Node(k)));
+        return Verdict::Refused(Refusal::Height(k));
     }
     let falls = word <= before;
     let misled = has_misled(table, k, record);
     if falls {
-        return Verdict::Refused(Refusal::Order(Node(k)));
+        return Verdict::Refused(Refusal::Order(k));
     }
     if misled {
-        return Verdict::Refused(Refusal::Target(Node(k)));
+        return Verdict::Refused(Refusal::Target(k));
     }
     if record.high.flagged() {
-        return Verdict::Refused(Refusal::ThenFlag(Node(k)));
+        return Verdict::Refused(Refusal::ThenFlag(k));
     }
     if record.high.value == record.low.value {
-        return Verdict::Refused(Refusal::EqualEdges(Node(k)));
+        return Verdict::Refused(Refusal::EqualEdges(k));
     }
     Verdict::Passed
 }
@@ -176,7 +176,7 @@ pub fn check_records(table: &[u8], n: u64, nodes: usize) -> Verdict
     let mut k = 0;
     while k < nodes {
         k += 1;
-        let verdict = check_record(table, n, k, word, before);
+        let verdict = check_record(table, n, Node(k), word, before);
         let Verdict::Passed = verdict else {
             return verdict;
         };

@@ -17,7 +17,7 @@ mark-named-requires : tie.Need-mark-named-requires
 mark-named-requires c κs =
     let a = c .before .before .before .before .before in
     let p = a .pre in
-    let r = fields-record (wordAt (a .args .table .now)) (a .args .k) _ _ _ _ (p .0) (p .2) (c .before .of .ensures) in
+    let r = fields-record (wordAt (a .args .table .now)) (a .args .k .0) _ _ _ _ (p .0) (p .2) (c .before .of .ensures) in
     (omega (arith, high-lower _ _ _ _ _ (p .0) (p .1 .within) r .node, p .3), omega (arith, low-lower _ _ _ _ _ (p .0) (p .1 .within) r .node, p .3))
 
 count-node-requires : tie.Need-count-node-requires
@@ -33,7 +33,7 @@ returns c =
     let m = c .before .before .before .before .before .before .before .before .mark-named .ensures in (
       c .before .before .put-word .ensures ∙ rw (c .before .before .before .before .count-node .ensures .0),
       ap length m ∙ simp length-set,
-      subst (λ (x : List ℕ). Marked x (a .args .k) (wordAt (a .args .table .now))) (sym m) (marks-next _ (a .args .marks .now) _ _ _ _ (p .0) r (high-lower _ _ _ _ _ (p .0) (p .1 .within) r .node) (low-lower _ _ _ _ _ (p .0) (p .1 .within) r .node) (p .3) (p .4)),
+      subst (λ (x : List ℕ). Marked x (a .args .k .0) (wordAt (a .args .table .now))) (sym m) (marks-next _ (a .args .marks .now) _ _ _ _ (p .0) r (high-lower _ _ _ _ _ (p .0) (p .1 .within) r .node) (low-lower _ _ _ _ _ (p .0) (p .1 .within) r .node) (p .3) (p .4)),
     )
 
 pub enter-node-spec : {M : Type 1} → statement M

@@ -5,7 +5,7 @@ use borrow.Author.Needs.{needs}
 use borrow.Fn.PlainCycle.{Measures}
 use Rattle.words.specs.Words.{wordAt}
 use Rattle.diagram.specs.Format.{height}
-use Rattle.ranking.proofs.Below.{none-below, node-room, edge-opens, some-block, node-opens, gap-opens, edge-sum, turned, falls, node-sum}
+use Rattle.ranking.proofs.Below.{none-below, node-room, edge-opens, some-block, node-opens, gap-opens, turned, falls, node-sum}
 use Rattle.ranking.proofs.smaller.rank_at.Reads as rank-at
 use Rattle.ranking.proofs.smaller.rank_at.Kinds as rank-at-kinds
 use Rattle.ranking.proofs.smaller.+rank_at.Lts-rank_at as rank-at-lts
@@ -61,11 +61,9 @@ pub +rank-at-spec : {M : Type 1} → statement M
     let b = c .before .before .before .before .before in
     let a = b .before .before .before in
     let p = a .before .before .before .before .before .pre .1 in
-    let q = edge-sum _ _ _ _ _ (turned _ _ _ _ _ _ _ (p .0) (a .turn-at .ensures)) (b .before .before .node .ensures) _ (b .before .height-at .ensures .0) _ _ (b .count-under .ensures) (c .before .before .before .rank-at .ensures) _ (c .before .before .across-gap .ensures) in
-    record { fits = node-sum _ _ _ _ _ _ _ (p .0) (a .turn-at .ensures) _ q (p .1) .1 })
+    record { fits = node-sum _ _ _ _ _ _ _ (p .0) (a .turn-at .ensures) _ _ _ _ _ (b .before .before .node .ensures) (b .before .height-at .ensures .0) (b .count-under .ensures) (c .before .before .before .rank-at .ensures) (c .before .before .across-gap .ensures) (p .1) .1 })
     (λ c.
     let b = c .before .before .before .before .before in
     let a = b .before .before .before in
     let p = a .before .before .before .before .before .pre .1 in
-    let q = edge-sum _ _ _ _ _ (turned _ _ _ _ _ _ _ (p .0) (a .turn-at .ensures)) (b .before .before .node .ensures) _ (b .before .height-at .ensures .0) _ _ (b .count-under .ensures) (c .before .before .before .rank-at .ensures) _ (c .before .before .across-gap .ensures) in
-    node-sum _ _ _ _ _ _ _ (p .0) (a .turn-at .ensures) _ q (p .1) .0))
+    node-sum _ _ _ _ _ _ _ (p .0) (a .turn-at .ensures) _ _ _ _ _ (b .before .before .node .ensures) (b .before .height-at .ensures .0) (b .count-under .ensures) (c .before .before .before .rank-at .ensures) (c .before .before .across-gap .ensures) (p .1) .0))
