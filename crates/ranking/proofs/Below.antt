@@ -17,7 +17,7 @@ use Rattle.diagram.proofs.Counts.{below-edge}
 use Rattle.counting.specs.Inner.{Filled, Opens}
 use Rattle.counting.proofs.Places.{one-shl}
 use Rattle.counting.proofs.Under.{own-room, filled-below}
-use Rattle.ranking.specs.Inner.{Turns}
+use Rattle.ranking.specs.Inner.{IsStep}
 
 -- a sink has no setting, so no setup is below
 pub none-below : (w : Words) (k y : ℕ) → k ≡ 0 → y < 2 ^ height w k → 0 ≡ countBelow (plain w k) y
@@ -64,9 +64,9 @@ module _ (t s : List ℕ) (e v y : ℕ) (F : Filled t s (e / 2)) (v-is : v ≡ e
           q ∙ rw (block-is, inside-count, g-is, v-is) (sym (below-edge w (W .settings) (W .nodes) (W .holds .ordered) e y (W .inside)))
 
 -- node k left by edge e
-module _ (t s : List ℕ) (k y e c rest : ℕ) (F : Filled t s k) (T : Turns (wordAt t) k y e c rest) where
-  pub turned : Filled t s (e / 2)
-  turned = filled-below t s k F (e / 2) (omega (arith, T .node))
+module _ (t s : List ℕ) (k y e c rest : ℕ) (F : Filled t s k) (T : IsStep (wordAt t) k y e c rest) where
+  pub step-filled : Filled t s (e / 2)
+  step-filled = filled-below t s k F (e / 2) (omega (arith, T .node))
 
   pub falls : (v m : ℕ) → v ≡ e / 2 → height (wordAt t) k ≡ m → height (wordAt t) v < m
   falls v m i q = rw i (omega (arith, T .low))
@@ -77,7 +77,7 @@ module _ (t s : List ℕ) (k y e c rest : ℕ) (F : Filled t s k) (T : Turns (wo
       → y < 2 ^ height (wordAt t) k → (c + r ≡ countBelow (plain (wordAt t) k) y) × (c + r < 18446744073709551616)
   node-sum v g block inside r v-is g-is block-is inside-is r-is l =
       let W = F .ready .within in
-      let q : r ≡ countBelow (under (wordAt t) e) rest = edge-sum t s e v rest turned v-is g g-is block inside block-is inside-is r r-is in
+      let q : r ≡ countBelow (under (wordAt t) e) rest = edge-sum t s e v rest step-filled v-is g g-is block inside block-is inside-is r r-is in
       let u : c + r ≡ countBelow (plain (wordAt t) k) y = rw q (sym (T .sum)) in
       let h : height (wordAt t) k < 64 = omega (arith, height-le-settings (wordAt t) (W .settings) (W .nodes) (W .holds .ordered) k (W .inside), W .holds .few-settings) in
       (u, omega (arith, u, count-le (plain (wordAt t) k) y, pow-lt {i = height (wordAt t) k} {j = 64} h))

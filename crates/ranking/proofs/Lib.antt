@@ -1,6 +1,6 @@
 -- The laws of ranking and unranking.
 pub mod Gap
-pub mod Turning
+pub mod Stepping
 pub mod Below
 pub mod Choosing
 pub mod Opening

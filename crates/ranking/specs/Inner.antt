@@ -6,7 +6,7 @@ use Rattle.diagram.specs.Meaning.{plain, under}
 use Rattle.diagram.specs.Count.{countBelow}
 
 -- of the setups below y under a plain edge to node k: `passed` of them in the half that is passed over, and the others under edge e, below `rest`
-pub record Turns (w : Words) (k y e passed rest : ℕ) : Type 0 where
+pub record IsStep (w : Words) (k y e passed rest : ℕ) : Type 0 where
   pub node : e / 2 < k
   pub low : height w (e / 2) < height w k
   pub rest-fits : rest < 2 ^ (height w k - 1)

@@ -7,30 +7,30 @@ ghost use Rattle.diagram.specs.Meaning.{plain, under};
 ghost use Rattle.diagram.specs.Count.{countBelow};
 ghost use Rattle.diagram.specs.Reading.{opposite};
 ghost use Rattle.counting.specs.Inner.{Filled};
-ghost use Rattle.ranking.specs.Inner.{Turns};
+ghost use Rattle.ranking.specs.Inner.{IsStep};
 use diagram::Edge;
 use diagram::Node;
 use diagram::Rank;
 use diagram::Setup;
 
-// Where setup y leaves a node: by this edge, with `passed` permitted setups in the half before it, and the settings that are left.
-struct Turn {
+// How a setup leaves a node: by this edge, past `passed` permitted setups, with these settings left.
+struct Step {
     edge: Edge,
     passed: u64,
     rest: Setup,
 }
 
-// Setup y leaves node k by its then-edge if its first setting is on; then the else-half is passed over.
-fn turn_at(table: &[u8], sheet: &[u8], k: Node, y: Setup) -> Turn
+// Setup y leaves node k by its then-edge if its first setting is on: it is then past the else-half.
+fn step_from(table: &[u8], sheet: &[u8], k: Node, y: Setup) -> Step
     requires { ⌜ (0 < k .0) × Filled (now table) (now sheet) (k .0) × (y .0 < 2 ^ height (wordAt (now table)) (k .0)) ⌝ }
-    ensures { λ r. ⌜ Turns (wordAt (now (table .entry))) (k .0) (y .0) (r .edge .value) (r .passed) (r .rest .0) ⌝ }
+    ensures { λ r. ⌜ IsStep (wordAt (now (table .entry))) (k .0) (y .0) (r .edge .value) (r .passed) (r .rest .0) ⌝ }
 {
     let record = diagram::record_at(table, k);
     let h = record.height - 1;
     let half = 1 << h;
     let low = record.low;
     if y.0 < half {
-        return Turn {
+        return Step {
             edge: low,
             passed: 0,
             rest: y,
@@ -38,7 +38,7 @@ fn turn_at(table: &[u8], sheet: &[u8], k: Node, y: Setup) -> Turn
     }
     let edge = record.high;
     let passed = counting::count_under(table, sheet, low, h);
-    Turn {
+    Step {
         edge,
         passed,
         rest: Setup(y.0 - half),
@@ -65,12 +65,12 @@ fn rank_at(table: &[u8], sheet: &[u8], k: Node, y: Setup) -> Rank
     if k.0 == 0 {
         return Rank(0);
     }
-    let turn = turn_at(table, sheet, k, y);
-    let node = turn.edge.node();
+    let step = step_from(table, sheet, k, y);
+    let node = step.edge.node();
     let g = diagram::height_at(table, node);
-    let block = counting::count_under(table, sheet, turn.edge, g);
-    let inside = rank_at(table, sheet, node, Setup(turn.rest.0 % (1 << g)));
-    Rank(turn.passed + across_gap(turn.edge, g, block, turn.rest, inside).0)
+    let block = counting::count_under(table, sheet, step.edge, g);
+    let inside = rank_at(table, sheet, node, Setup(step.rest.0 % (1 << g)));
+    Rank(step.passed + across_gap(step.edge, g, block, step.rest, inside).0)
 }
 
 // How many setups below x edge e permits.

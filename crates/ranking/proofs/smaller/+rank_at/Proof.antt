@@ -5,7 +5,7 @@ use borrow.Author.Needs.{needs}
 use borrow.Fn.PlainCycle.{Measures}
 use Rattle.words.specs.Words.{wordAt}
 use Rattle.diagram.specs.Format.{height}
-use Rattle.ranking.proofs.Below.{none-below, node-room, edge-opens, some-block, node-opens, gap-opens, turned, falls, node-sum}
+use Rattle.ranking.proofs.Below.{none-below, node-room, edge-opens, some-block, node-opens, gap-opens, step-filled, falls, node-sum}
 use Rattle.ranking.proofs.smaller.rank_at.Reads as rank-at
 use Rattle.ranking.proofs.smaller.rank_at.Kinds as rank-at-kinds
 use Rattle.ranking.proofs.smaller.+rank_at.Lts-rank_at as rank-at-lts
@@ -13,7 +13,7 @@ use Rattle.counting.proofs.count_under.Reads as count-under-reads
 use Rattle.diagram.proofs.Edge.node.Reads as node-reads
 use Rattle.diagram.proofs.height_at.Reads as height-at-reads
 use Rattle.ranking.proofs.smaller.across_gap.Reads as across-gap-reads
-use Rattle.ranking.proofs.smaller.turn_at.Reads as turn-at-reads
+use Rattle.ranking.proofs.smaller.step_from.Reads as step-from-reads
 use Rattle.ranking.proofs.smaller.+rank_at.{statement}
 use Rattle.ranking.proofs.smaller.+rank_at.Tie.{close}
 
@@ -23,47 +23,47 @@ abbrev μ-rank-at : Measures 2 rank-at-kinds.ps ℕ
 pub +rank-at-spec : {M : Type 1} → statement M
 +rank-at-spec =
     close μ-rank-at
-    (λ t. rank-at-lts.spec (_, turn-at-reads.Learnt, _, node-reads.Learnt, _, height-at-reads.Learnt, _, count-under-reads.Learnt, _, rank-at.Post, _, across-gap-reads.Learnt) _ rank-at.Post
+    (λ t. rank-at-lts.spec (_, step-from-reads.Learnt, _, node-reads.Learnt, _, height-at-reads.Learnt, _, count-under-reads.Learnt, _, rank-at.Post, _, across-gap-reads.Learnt) _ rank-at.Post
     -- the sink
     (λ c. none-below _ _ _ (c .if1 .taken) (c .before .before .before .before .pre .1 .1))
-    -- the turn
+    -- the step
     (λ c κs. let p = c .before .before .before .before .pre .1 in (omega arith, p .0, p .1))
     (λ c κs. search needs)
     -- its node's height
     (λ c κs.
     let a = c .before in
     let p = a .before .before .before .before .before .pre .1 in
-    node-room _ _ _ _ 0 (turned _ _ _ _ _ _ _ (p .0) (a .turn-at .ensures)) (c .node .ensures))
+    node-room _ _ _ _ 0 (step-filled _ _ _ _ _ _ _ (p .0) (a .step-from .ensures)) (c .node .ensures))
     -- its edge's count
     (λ c κs.
     let a = c .before .before in
     let p = a .before .before .before .before .before .pre .1 in
-    edge-opens _ _ _ _ 0 (turned _ _ _ _ _ _ _ (p .0) (a .turn-at .ensures)) (c .before .node .ensures) _ (c .height-at .ensures .0))
+    edge-opens _ _ _ _ 0 (step-filled _ _ _ _ _ _ _ (p .0) (a .step-from .ensures)) (c .before .node .ensures) _ (c .height-at .ensures .0))
     (λ c. search needs)
     (λ c.
     let a = c .before .before .before .before in
     let p = a .before .before .before .before .before .pre .1 in
-    some-block _ _ _ _ 0 (turned _ _ _ _ _ _ _ (p .0) (a .turn-at .ensures)) (c .before .before .before .node .ensures) _ (c .before .before .height-at .ensures .0))
+    some-block _ _ _ _ 0 (step-filled _ _ _ _ _ _ _ (p .0) (a .step-from .ensures)) (c .before .before .before .node .ensures) _ (c .before .before .height-at .ensures .0))
     -- the call on its node
     (λ c κs.
     let a = c .before .before .before .before in
     let p = a .before .before .before .before .before .pre in
-    let o = node-opens _ _ _ _ _ (turned _ _ _ _ _ _ _ (p .1 .0) (a .turn-at .ensures)) (c .before .before .before .node .ensures) _ (c .before .before .height-at .ensures .0) in
-    (falls _ _ _ _ _ _ _ (p .1 .0) (a .turn-at .ensures) _ _ (c .before .before .before .node .ensures) (p .0), o))
+    let o = node-opens _ _ _ _ _ (step-filled _ _ _ _ _ _ _ (p .1 .0) (a .step-from .ensures)) (c .before .before .before .node .ensures) _ (c .before .before .height-at .ensures .0) in
+    (falls _ _ _ _ _ _ _ (p .1 .0) (a .step-from .ensures) _ _ (c .before .before .before .node .ensures) (p .0), o))
     -- across the gap
     (λ c κs.
     let b = c .before .before in
     let a = b .before .before .before in
     let p = a .before .before .before .before .before .pre .1 in
-    gap-opens _ _ _ _ _ (turned _ _ _ _ _ _ _ (p .0) (a .turn-at .ensures)) (b .before .before .node .ensures) _ (b .before .height-at .ensures .0) _ _ (b .count-under .ensures) (c .rank-at .ensures))
+    gap-opens _ _ _ _ _ (step-filled _ _ _ _ _ _ _ (p .0) (a .step-from .ensures)) (b .before .before .node .ensures) _ (b .before .height-at .ensures .0) _ _ (b .count-under .ensures) (c .rank-at .ensures))
     -- the sum
     (λ c.
     let b = c .before .before .before .before .before in
     let a = b .before .before .before in
     let p = a .before .before .before .before .before .pre .1 in
-    record { fits = node-sum _ _ _ _ _ _ _ (p .0) (a .turn-at .ensures) _ _ _ _ _ (b .before .before .node .ensures) (b .before .height-at .ensures .0) (b .count-under .ensures) (c .before .before .before .rank-at .ensures) (c .before .before .across-gap .ensures) (p .1) .1 })
+    record { fits = node-sum _ _ _ _ _ _ _ (p .0) (a .step-from .ensures) _ _ _ _ _ (b .before .before .node .ensures) (b .before .height-at .ensures .0) (b .count-under .ensures) (c .before .before .before .rank-at .ensures) (c .before .before .across-gap .ensures) (p .1) .1 })
     (λ c.
     let b = c .before .before .before .before .before in
     let a = b .before .before .before in
     let p = a .before .before .before .before .before .pre .1 in
-    node-sum _ _ _ _ _ _ _ (p .0) (a .turn-at .ensures) _ _ _ _ _ (b .before .before .node .ensures) (b .before .height-at .ensures .0) (b .count-under .ensures) (c .before .before .before .rank-at .ensures) (c .before .before .across-gap .ensures) (p .1) .0))
+    node-sum _ _ _ _ _ _ _ (p .0) (a .step-from .ensures) _ _ _ _ _ (b .before .before .node .ensures) (b .before .height-at .ensures .0) (b .count-under .ensures) (c .before .before .before .rank-at .ensures) (c .before .before .across-gap .ensures) (p .1) .0))

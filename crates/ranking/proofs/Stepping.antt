@@ -15,7 +15,7 @@ use Rattle.diagram.proofs.Counts.{below-else, below-then}
 use Rattle.counting.specs.Inner.{Filled, Opens}
 use Rattle.counting.proofs.Places.{one-shl}
 use Rattle.counting.proofs.Under.{filled-below}
-use Rattle.ranking.specs.Inner.{Turns}
+use Rattle.ranking.specs.Inner.{IsStep}
 
 module _ (t s : List ℕ) (k y h a b : ℕ) (p : 0 < k) (F : Filled t s k) (l : y < 2 ^ height (wordAt t) k) (r : IsRecord (wordAt t) k h a b) where
   abbrev w : Words
@@ -42,11 +42,11 @@ module _ (t s : List ℕ) (k y h a b : ℕ) (p : 0 < k) (F : Filled t s k) (l : 
   }
 
   -- the settings left are those below the node's own
-  goes : (e c rest : ℕ) → Lower w k e → rest < 2 ^ (h - 1) → countBelow (plain w k) y ≡ c + countBelow (under w e) rest → Turns w k y e c rest
+  goes : (e c rest : ℕ) → Lower w k e → rest < 2 ^ (h - 1) → countBelow (plain w k) y ≡ c + countBelow (under w e) rest → IsStep w k y e c rest
   goes e c rest o i q = record { node = o .node; low = o .low; rest-fits = rw (← r .height-is) i; sum = q }
 
-  pub turn-low : y < 1 * 2 ^ (h - 1) % 18446744073709551616 → Turns w k y b 0 y
-  turn-low i =
+  pub step-low : y < 1 * 2 ^ (h - 1) % 18446744073709551616 → IsStep w k y b 0 y
+  step-low i =
       let j : y < 2 ^ (h - 1) = rw half at i in
       goes b 0 y low-node j (rw (r .else-is) (all k p (W .inside) (rw (← r .height-is) j) ∙ sym (zero-add (countBelow (under w (elseEdge w k)) y))))
     where
@@ -54,8 +54,8 @@ module _ (t s : List ℕ) (k y h a b : ℕ) (p : 0 < k) (F : Filled t s k) (l : 
       all zero p m j = absurd (omega arith)
       all (suc k) p m j = below-else w (W .settings) (W .nodes) (W .holds .ordered) k y m (omega arith)
 
-  pub turn-high : 1 * 2 ^ (h - 1) % 18446744073709551616 ≤ y → (c : ℕ) → c ≡ countBelow (under w b) (2 ^ (h - 1)) → Turns w k y a c (y - 1 * 2 ^ (h - 1) % 18446744073709551616)
-  turn-high i c q =
+  pub step-high : 1 * 2 ^ (h - 1) % 18446744073709551616 ≤ y → (c : ℕ) → c ≡ countBelow (under w b) (2 ^ (h - 1)) → IsStep w k y a c (y - 1 * 2 ^ (h - 1) % 18446744073709551616)
+  step-high i c q =
       let j : 2 ^ (h - 1) ≤ y = rw half at i in
       let top : suc (h - 1) ≡ height w k = omega (arith, tall, r .height-is) in
       let u : y < 2 ^ (h - 1) + 2 ^ (h - 1) = omega (arith, two-pow-succ (h - 1), ap (λ (g : ℕ). 2 ^ g) top) in
