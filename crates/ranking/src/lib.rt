@@ -1,4 +1,4 @@
-// Ranking and unranking: a permitted setup's number, and the setup of a number. None has a `requires`.
+// The operations rank and unrank: a permitted setup's number, and the setup of a number. Neither has a `requires`.
 mod descent;
 mod smaller;
 
