@@ -5,7 +5,6 @@ use mathlib.Core.Bool.{Bool}
 use mathlib.Core.List.{List}
 use native.Mathlib.Omega.{arith}
 use lib.ListN.{length}
-use borrow.Author.Tests.{le-leb, lt-leb}
 use Rattle.words.specs.Words.{wordAt, wordsOver}
 use Rattle.words.proofs.Laws.{words-read, length-wordsOver}
 use Rattle.diagram.specs.Format.{Words, settings}
@@ -20,9 +19,9 @@ use Rattle.checking.specs.declared.Checked.{Checked}
 use Rattle.checking.specs.declared.Checked.the-variants.{Table}
 use Rattle.checking.specs.declared.Shape.{Shape}
 use Rattle.checking.specs.Answers.{checkedAs}
-use Rattle.checking.specs.Operations.{checking, counting, testSetup, sheetBy, sheetAfter}
+use Rattle.checking.specs.Operations.{checking, counting, sheetBy, sheetAfter}
 use Rattle.counting.specs.Inner.{Filled, Opens}
-use Rattle.counting.proofs.Places.{one-shl, place-fits}
+use Rattle.counting.proofs.Places.{place-fits}
 
 module _ (t s out : List ℕ) (a : Checked) (is : (checkedAs a ≡ checking t s) × (out ≡ sheetAfter t s)) where
   -- a refusal of the check is the operation's
@@ -107,13 +106,3 @@ module _ (t s out : List ℕ) (a : Checked) (is : (checkedAs a ≡ checking t s)
       pub counted : (c : ℕ) → c ≡ countBelow (under w e) (2 ^ n) → value c ≡ counting t s
       unfolding counting total
       counted c q′ = answered (λ n P. value (countBelow P (2 ^ n))) (value c) (ap value q′)
-
--- testing from an edge on
-module _ (n x : ℕ) (P : ℕ → Bool) (few : n ≤ 63) where
-  pub too-large : 1 * 2 ^ n % 18446744073709551616 ≤ x → refusal 12 0 ≡ testSetup x n P
-  unfolding testSetup
-  too-large l = rw (le-leb (2 ^ n) x (rw (one-shl n few) at l))
-
-  pub tested : x < 1 * 2 ^ n % 18446744073709551616 → (b : Bool) → b ≡ P x → value b ≡ testSetup x n P
-  unfolding testSetup
-  tested l b q = rw (lt-leb (2 ^ n) x (rw (one-shl n few) at l), q)

@@ -1,6 +1,7 @@
 -- What the operations answer fits the packed form: places up to 65,535, n up to 63 and N up to 65,535. Assumes nothing.
 use Prim.Native.Nat.{ℕ, _+_, _/_, _^_, _≤_, _<_}
 use mathlib.Core.Path.{_≡_, sym}
+use mathlib.Core.Bool.{Bool}
 use mathlib.Core.List.{List}
 use native.Mathlib.Omega.{arith}
 use lib.Dec.{leb}
@@ -26,14 +27,21 @@ pub counting-place : (t s : List ℕ) → Refuses Low (counting t s)
 unfolding counting
 counting-place t s = then-refuses Low (checking t s) _ (checking-place t s) (λ _ _. passes Low (total (wordAt t)))
 
+pub test-place : (x n : ℕ) (P : ℕ → Bool) → Refuses Low (testSetup x n P)
+unfolding testSetup
+test-place x n P = unless Low (leb (2 ^ n) x) 12 0 (omega arith) (passes Low (P x))
+
 pub testing-place : (t : List ℕ) (x : ℕ) (s : List ℕ) → Refuses Low (testing t x s)
-unfolding testing testSetup
-testing-place t x s =
-    then-refuses Low (checking t s) _ (checking-place t s)
-    (λ _ _. unless Low (leb (2 ^ settings (wordAt t)) x) 12 0 (omega arith) (passes Low (permitted (wordAt t) x)))
+unfolding testing
+testing-place t x s = then-refuses Low (checking t s) _ (checking-place t s) (λ _ _. test-place x (settings (wordAt t)) (permitted (wordAt t)))
+
+-- a header's first field has six bits
+pub settings-fit : (t : List ℕ) → ((i : ℕ) → getD t i 0 < 256) → settings (wordAt t) ≤ 63
+unfolding settings highField
+settings-fit t f = omega (arith, word-fits t 0 f)
 
 pub shape-fits : (t s : List ℕ) (n N : ℕ) → ((i : ℕ) → getD t i 0 < 256) → value (n, N) ≡ checking t s → (n ≤ 63) × (N ≤ 65535)
-unfolding checking settings highField
+unfolding checking
 shape-fits t s n N f e =
     let A = check-accepted t (length s / 8) (λ N. N + 1) n N (sym e) .0 in
-    (omega (arith, A .has-settings, word-fits t 0 f), A .few)
+    (omega (arith, A .has-settings, settings-fit t f), A .few)

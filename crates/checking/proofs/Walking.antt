@@ -5,30 +5,19 @@ use mathlib.Core.Bool.{Bool, true, false, not, Bool·not-not}
 use mathlib.Core.List.{List}
 use native.Mathlib.Omega.{arith}
 use lib.Dec.{eqb}
-use borrow.Author.Tests.{eqb-true, eqb-false, eq-eqb, ne-eqb}
+use borrow.Author.Tests.{eq-eqb, ne-eqb}
 use Rattle.words.specs.Words.{wordAt}
 use Rattle.diagram.specs.Format.{Words, height}
-use Rattle.diagram.specs.Meaning.{bit, branch, flip, holds, plain, under}
+use Rattle.diagram.specs.Meaning.{bit, branch, holds, plain, under}
 use Rattle.diagram.specs.Reading.{IsRecord, Within}
 use Rattle.diagram.proofs.Paths.{Lower, branch-lower, plain-branch}
+use Rattle.diagram.proofs.Edges.{under-flagged, under-plain}
+use Rattle.diagram.proofs.Inside.{lower-within}
 
 -- the sink permits every setup
 pub plain-sink : (w : Words) (k x : ℕ) → k ≡ 0 → plain w k x ≡ true
 unfolding plain holds
 plain-sink w k x e = rw e
-
--- an edge by its flag f, with v as its node
-module _ (w : Words) (e x v : ℕ) (f : Bool) (f-is : f ≡ eqb (e % 2) 1) (v-is : v ≡ e / 2) where
-  pub under-flagged : f ≡ true → not (plain w v x) ≡ under w e x
-  unfolding under flip
-  under-flagged q = rw (eqb-true (e % 2) 1 (sym f-is ∙ q), v-is)
-
-  pub under-plain : f ≡ false → plain w v x ≡ under w e x
-  unfolding under flip
-  under-plain q =
-      let o : e % 2 ≡ 1 → ⊥ = eqb-false (e % 2) 1 (sym f-is ∙ q) in
-      let z : e % 2 ≡ 0 = omega arith in
-      rw (z, v-is)
 
 -- the edge that a record takes
 module _ (w : Words) (k x h a b : ℕ) (r : IsRecord w k h a b) where
@@ -45,20 +34,17 @@ module _ (t : List ℕ) (k x e v : ℕ) (W : Within t k) (some : k ≡ 0 → ⊥
   pub calls : (m : ℕ) → height (wordAt t) k ≡ m → (height (wordAt t) v < m) × Within t v
   calls m q =
       let l : Lower (wordAt t) k (branch (wordAt t) k x) = branch-lower (wordAt t) (W .settings) (W .nodes) (W .holds .ordered) k x (omega arith) (W .inside) in
-      let a = l .low in
-      let b = l .node in
-      let i = W .inside in
-      rw (v-is, e-is) (omega arith, record { settings = W .settings; nodes = W .nodes; holds = W .holds; inside = omega arith })
+      rw (v-is, e-is) (omega (arith, l .low), lower-within t k W (branch (wordAt t) k x) l)
 
   pub leaves : plain (wordAt t) k x ≡ under (wordAt t) e x
   leaves = rw e-is (plain-branch (wordAt t) (W .settings) (W .nodes) (W .holds .ordered) k x (omega arith) (W .inside))
 
   module _ (f : Bool) (f-is : f ≡ eqb (e % 2) 1) where
     pub plain-flagged : f ≡ true → plain (wordAt t) k x ≡ not (plain (wordAt t) v x)
-    plain-flagged q = leaves ∙ sym (under-flagged (wordAt t) e x v f f-is v-is q)
+    plain-flagged q = leaves ∙ sym (under-flagged e f f-is (wordAt t) x v v-is q)
 
     pub plain-plain : f ≡ false → plain (wordAt t) k x ≡ plain (wordAt t) v x
-    plain-plain q = leaves ∙ sym (under-plain (wordAt t) e x v f f-is v-is q)
+    plain-plain q = leaves ∙ sym (under-plain e f f-is (wordAt t) x v v-is q)
 
     pub flagged-flagged : f ≡ true → not (plain (wordAt t) k x) ≡ plain (wordAt t) v x
     flagged-flagged q = ap not (plain-flagged q) ∙ Bool·not-not (plain (wordAt t) v x)

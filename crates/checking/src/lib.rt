@@ -104,14 +104,14 @@ pub fn count(table: &[u8], sheet: &mut [u8]) -> Counted
 }
 
 // Rule 12, and whether edge e permits setup x of n settings.
-fn test_setup(table: &[u8], n: u64, e: Edge, x: Setup) -> Tested
+pub fn test_setup(table: &[u8], n: u64, e: Edge, x: Setup) -> Tested
     requires { ⌜ Within (now table) (e .value / 2) × (n ≤ 63) ⌝ }
     ensures { λ r. ⌜ testedAs r ≡ testSetup (x .0) n (under (wordAt (now (table .entry))) (e .value)) ⌝ }
 {
     if 1 << n <= x.0 {
         return Tested::Refused(Refusal::SetupRange);
     }
-    Tested::Permitted(permitted_under(table, e, x))
+    Tested::Permitted(walk::permitted_under(table, e, x))
 }
 
 // Tests whether a setup is permitted.

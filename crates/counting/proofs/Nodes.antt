@@ -50,12 +50,8 @@ module _ (t s : List ℕ) (k h a b : ℕ) (p : 0 < k) (R : Ready t s k) (r : IsR
   place-sum c d u v =
       let x : c ≡ through w (h - 1) a = u ∙ rw (f-is, R .places (a / 2) (high-lower t k h a b p W r .node)) in
       let y : d ≡ through w (h - 1) b = v ∙ rw (g-is, R .places (b / 2) (low-lower t k h a b p W r .node)) in
-      let e : c + d ≡ place w k = add-comm c d ∙ ap₂ _+_ y x ∙ rw (r .height-is, r .then-is, r .else-is) (sym (sum k p (W .inside))) in
+      let e : c + d ≡ place w k = add-comm c d ∙ ap₂ _+_ y x ∙ rw (r .height-is, r .then-is, r .else-is) (sym (place-rec w (W .settings) (W .nodes) (W .holds .ordered) k p (W .inside))) in
       (e, rw e (place-fits w k (omega (arith, r .height-is, r .low))))
-    where
-      sum : (k : ℕ) → 0 < k → k ≤ W .nodes → place w k ≡ through w (height w k - 1) (elseEdge w k) + through w (height w k - 1) (thenEdge w k)
-      sum zero p l = absurd (omega arith)
-      sum (suc k) p l = place-rec w (W .settings) (W .nodes) (W .holds .ordered) k l
 
 -- one record more
 named-next : (w : Words) (k j : ℕ) → 0 < k → named w k j ≡ (named w (k - 1) j || names w k j)

@@ -7,18 +7,21 @@ use native.Mathlib.Omega.{arith}
 use native.Mathlib.Nat.{mul-comm, one-mul, mod-eq-of-lt, lt-of-le-of-lt, mul-le-mul-left, sub-add-cancel, le-trans, le-of-eq}
 use lib.Dec.{eqb}
 use lib.ListN.{length}
-use lib.Pow.{pow-lt, pow-add}
-use borrow.Author.Tests.{eqb-true, eqb-false}
+use lib.Pow.{pow-pos, pow-lt, pow-add}
 use Rattle.words.specs.Words.{wordAt}
 use Rattle.diagram.specs.Format.{Words, height}
 use Rattle.diagram.specs.Meaning.{plain, holds}
 use Rattle.diagram.specs.Count.{indicator, countBelow, place}
-use Rattle.diagram.specs.Reading.{opposite, edgeCount}
+use Rattle.diagram.specs.Reading.{edgeCount}
 use Rattle.diagram.proofs.CountLaws.{count-le}
+use Rattle.diagram.proofs.Edges.{opposite-set, opposite-clear}
 
 -- 2 ^ g as a shift makes it
 pub one-shl : (g : ℕ) → g ≤ 63 → 1 * 2 ^ g % 18446744073709551616 ≡ 2 ^ g
 one-shl g l = rw one-mul (mod-eq-of-lt (pow-lt {i = g} {j = 64} (omega arith)))
+
+pub shl-pos : (g : ℕ) → g ≤ 63 → 0 < 1 * 2 ^ g % 18446744073709551616
+shl-pos g l = rw (one-shl g l) (pow-pos g)
 
 -- a node's count is at most the setups counted, and fits 64 bits
 pub place-le : (w : Words) (k : ℕ) → place w k ≤ 2 ^ height w k
@@ -62,12 +65,9 @@ module _ (s : List ℕ) (e v c g h : ℕ) (R : Countable s e g h) (v-is : v ≡ 
   shifted o l = let j = R .3 in rw (mul-comm o (2 ^ (h - g))) (mod-eq-of-lt (lt-of-le-of-lt (edge-le o l) (pow-lt {i = h} {j = 64} (omega arith))))
 
   pub edge-flagged : (f : Bool) → f ≡ eqb (e % 2) 1 → f ≡ true → (1 * 2 ^ g % 18446744073709551616 - c) * 2 ^ (h - g) % 18446744073709551616 ≡ edgeCount (e % 2) g h (wordAt s (e / 2))
-  unfolding edgeCount opposite
-  edge-flagged f p q = rw (one-shl g low, eqb-true (e % 2) 1 (sym p ∙ q), ← place-is) (shifted (2 ^ g - c) (omega arith))
+  unfolding edgeCount
+  edge-flagged f p q = rw (one-shl g low, opposite-set e f p q, ← place-is) (shifted (2 ^ g - c) (omega arith))
 
   pub edge-plain : (f : Bool) → f ≡ eqb (e % 2) 1 → f ≡ false → c * 2 ^ (h - g) % 18446744073709551616 ≡ edgeCount (e % 2) g h (wordAt s (e / 2))
-  unfolding edgeCount opposite
-  edge-plain f p q =
-      let o : e % 2 ≡ 1 → ⊥ = eqb-false (e % 2) 1 (sym p ∙ q) in
-      let z : e % 2 ≡ 0 = omega arith in
-      rw (z, ← place-is) (shifted c most)
+  unfolding edgeCount
+  edge-plain f p q = rw (opposite-clear e f p q, ← place-is) (shifted c most)

@@ -9,28 +9,22 @@ use Rattle.words.proofs.Cases.{less, same, more, tri}
 use Rattle.diagram.specs.Format.{Words, height}
 use Rattle.diagram.specs.Meaning.{under}
 use Rattle.diagram.specs.Count.{countBelow}
-use Rattle.diagram.specs.Reading.{Within, edgeCount}
+use Rattle.diagram.specs.Reading.{edgeCount}
 use Rattle.diagram.proofs.Counts.{count-edge}
+use Rattle.diagram.proofs.Inside.{within-below}
 use Rattle.counting.specs.Inner.{Filled, Opens}
 use Rattle.counting.proofs.Places.{Countable, countable}
 
-module _ (t s : List ℕ) (k : ℕ) (F : Filled t s k) where
-  abbrev W : Within t k
-  W = F .ready .within
-
-  pub own-room : 8 * k + 8 ≤ length t
-  own-room = omega (arith, W .inside, W .holds .long)
-
-  -- a smaller node's places are filled too
-  pub filled-below : (j : ℕ) → j ≤ k → Filled t s j
-  filled-below j l = record {
-    ready = record {
-      within = record { settings = W .settings; nodes = W .nodes; holds = W .holds; inside = omega (arith, W .inside) };
-      room = omega (arith, F .ready .room);
-      places = λ i q. F .ready .places i (omega arith);
-    };
-    own = elim (tri j k) [ less i ↦ F .ready .places j i | same i ↦ rw i (F .own) | more i ↦ absurd (omega arith) ];
-  }
+-- a smaller node's places are filled too
+pub filled-below : (t s : List ℕ) (k : ℕ) → Filled t s k → (j : ℕ) → j ≤ k → Filled t s j
+filled-below t s k F j l = record {
+  ready = record {
+    within = within-below t k (F .ready .within) j l;
+    room = omega (arith, F .ready .room);
+    places = λ i q. F .ready .places i (omega arith);
+  };
+  own = elim (tri j k) [ less i ↦ F .ready .places j i | same i ↦ rw i (F .own) | more i ↦ absurd (omega arith) ];
+}
 
 -- edge e from height h to node v, of height g
 module _ (t s : List ℕ) (e h v g : ℕ) (O : Opens t s e h) (v-is : v ≡ e / 2) (g-is : g ≡ height (wordAt t) v) where

@@ -1,8 +1,8 @@
 -- Laws of a number's bits. Assumes nothing.
 use Prim.Native.Nat.{ℕ, suc, _+_, _-_, _/_, _%_, _^_, _≤_, _<_}
-use mathlib.Core.Path.{_≡_, ap, subst}
+use mathlib.Core.Path.{_≡_, sym, ap, subst, _∙_}
 use mathlib.Core.Bool.{Bool, true, false}
-use native.Mathlib.Nat.{mod-mod, mod-lt, div-eq-of-lt, add-div-right, add-mod-right}
+use native.Mathlib.Nat.{mod-mod, mod-lt, mod-eq-of-lt, div-eq-of-lt, add-comm, add-div-right, add-mod-right, two-pow-succ}
 use native.Mathlib.Omega.{arith}
 use lib.Dec.{eqb}
 use lib.Pow.{pow-pos, field, mod-mod-pow, ones-split, high, ones-lt}
@@ -33,6 +33,19 @@ pub with-mod : (b : Bool) (h x : ℕ) → withBit b h x % 2 ^ (h - 1) ≡ x % 2 
 unfolding withBit
 with-mod true h x = rw (add-mod-right, mod-mod)
 with-mod false h x = rw mod-mod
+
+-- ... of a number with no other bit than those below
+pub with-off : (h x : ℕ) → x < 2 ^ (h - 1) → withBit false h x ≡ x
+unfolding withBit
+with-off h x l = mod-eq-of-lt l
+
+pub with-on : (h x : ℕ) → x < 2 ^ (h - 1) → withBit true h x ≡ 2 ^ (h - 1) + x
+unfolding withBit
+with-on h x l = ap (λ (y : ℕ). y + 2 ^ (h - 1)) (mod-eq-of-lt l) ∙ add-comm x (2 ^ (h - 1))
+
+-- the numbers of h bits, by their first one
+pub pow-halves : (h : ℕ) → 0 < h → 2 ^ h ≡ 2 ^ (h - 1) + 2 ^ (h - 1)
+pow-halves h p = let e : suc (h - 1) ≡ h = omega arith in ap (λ (g : ℕ). 2 ^ g) (sym e) ∙ two-pow-succ (h - 1)
 
 -- every bit of 2 ^ n - 1 is set
 pub bit-ones : (h n : ℕ) → 0 < h → h ≤ n → bit h (2 ^ n - 1) ≡ true

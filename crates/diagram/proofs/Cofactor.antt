@@ -1,8 +1,7 @@
 -- The cofactors of an edge: what it permits with one setting on or off. Assumes nothing.
-use Prim.Native.Nat.{ℕ, zero, suc, _+_, _-_, _*_, _/_, _%_, _^_, _≤_, _<_}
+use Prim.Native.Nat.{ℕ, zero, suc, _+_, _-_, _/_, _%_, _^_, _≤_, _<_}
 use mathlib.Core.Path.{_≡_, refl, sym, ap, subst, _∙_}
-use mathlib.Core.Bool.{Bool, true, false, not, cond, Bool·not-not}
-use native.Mathlib.Nat.{mod-eq-of-lt, add-comm}
+use mathlib.Core.Bool.{Bool, true, false, cond}
 use native.Mathlib.Omega.{arith}
 use lib.Dec.{eqb, ltb}
 use borrow.Author.Tests.{ltb-true, ltb-false, lt-ltb, le-ltb}
@@ -11,42 +10,16 @@ use Rattle.diagram.specs.Meaning.{flip, plain, under}
 use Rattle.diagram.specs.Count.{indicator}
 use Rattle.diagram.specs.Ordered.{Ordered}
 use Rattle.diagram.specs.Reading.{turn, cofactor}
-use Rattle.diagram.proofs.Bits.{withBit, with-mod}
+use Rattle.diagram.proofs.Bits.{withBit, with-mod, with-off, with-on}
 use Rattle.diagram.proofs.Paths.{side, side-lower}
-use Rattle.diagram.proofs.Local.{under-agree, plain-with}
-
--- a turned edge leads to the same node
-pub turn-node : (f e : ℕ) → turn f e / 2 ≡ e / 2
-unfolding turn
-turn-node zero e = refl
-turn-node (suc f) e = omega arith
-
--- ... and permits the opposite
-pub turn-under : (w : Words) (f e x : ℕ) → under w (turn f e) x ≡ flip f (under w e x)
-unfolding under flip turn
-turn-under w zero e x = refl
-turn-under w (suc f) e x = go (e % 2) refl
-  where
-    node : (2 * (e / 2) + (1 - e % 2)) / 2 ≡ e / 2
-    node = omega arith
-
-    go : (d : ℕ) → e % 2 ≡ d → flip ((2 * (e / 2) + (1 - e % 2)) % 2) (plain w ((2 * (e / 2) + (1 - e % 2)) / 2) x) ≡ not (flip (e % 2) (plain w (e / 2) x))
-    go zero q = let o : (2 * (e / 2) + (1 - e % 2)) % 2 ≡ 1 = omega arith in rw (node, o, q)
-    go (suc zero) q = let o : (2 * (e / 2) + (1 - e % 2)) % 2 ≡ 0 = omega arith in rw (node, o, q) (sym (Bool·not-not (plain w (e / 2) x)))
-    go (suc (suc d)) q = absurd (omega arith)
+use Rattle.diagram.proofs.Local.{under-agree, node-with}
+use Rattle.diagram.proofs.Edges.{flag-is, turn-node, turn-under}
 
 -- a node of some height is not the sink
 pub no-sink : (w : Words) (k : ℕ) → 0 < height w k → 0 < k
 unfolding height
 no-sink w zero l = l
 no-sink w (suc k) l = omega arith
-
--- the flag of an edge, as a number
-flag-is : (f : ℕ) → f < 2 → indicator (eqb f 1) ≡ f
-unfolding indicator
-flag-is zero l = refl
-flag-is (suc zero) l = refl
-flag-is (suc (suc f)) l = absurd (omega arith)
 
 -- the cofactors of edge e as code finds them, where node v is its node, of height g
 module _ (w : Words) (e h v g : ℕ) (v-is : v ≡ e / 2) (g-is : g ≡ height w v) where
@@ -81,25 +54,17 @@ module _ (w : Words) (n N : ℕ) (D : Ordered w n N) (e h : ℕ) (inside : e / 2
   unfolding cofactor under
   cofactor-with b x = go (ltb (height w (e / 2)) h) refl
     where
-      own : (k : ℕ) → 0 < k → k ≤ N → height w k ≡ h → plain w k (withBit b h x) ≡ under w (side w b k) x
-      own zero p l q = absurd (omega arith)
-      own (suc k) p l q = subst (λ (g : ℕ). plain w (suc k) (withBit b g x) ≡ under w (side w b (suc k)) x) q (plain-with w n N D b k x l)
-
       go : (c : Bool) → ltb (height w (e / 2)) h ≡ c → under w e (withBit b h x) ≡ under w (cond c e (turn (e % 2) (side w b (e / 2)))) x
       go true q = under-agree w n N D e (h - 1) (withBit b h x) x inside (omega (arith, ltb-true (height w (e / 2)) h q)) (with-mod b h x)
       go false q =
           let p = ltb-false (height w (e / 2)) h q in
           let t : height w (e / 2) ≡ h = omega arith in
-          turned (own (e / 2) (no-sink w (e / 2) (omega arith)) inside t)
-        where
-          turned : plain w (e / 2) (withBit b h x) ≡ under w (side w b (e / 2)) x → under w e (withBit b h x) ≡ under w (turn (e % 2) (side w b (e / 2))) x
-          turned a = ap (flip (e % 2)) a ∙ sym (turn-under w (e % 2) (side w b (e / 2)) x)
+          let a = node-with w n N D b (e / 2) x (no-sink w (e / 2) (omega arith)) inside in
+          ap (flip (e % 2)) (subst (λ (g : ℕ). plain w (e / 2) (withBit b g x) ≡ under w (side w b (e / 2)) x) t a) ∙ sym (turn-under w (e % 2) (side w b (e / 2)) x)
 
   -- the half with the setting off, and the half with it on
   pub cofactor-off : (x : ℕ) → x < 2 ^ (h - 1) → under w (cofactor w h false e) x ≡ under w e x
-  unfolding withBit
-  cofactor-off x l = sym (cofactor-with false x) ∙ ap (under w e) (mod-eq-of-lt l)
+  cofactor-off x l = sym (cofactor-with false x) ∙ ap (under w e) (with-off h x l)
 
   pub cofactor-on : (x : ℕ) → x < 2 ^ (h - 1) → under w (cofactor w h true e) x ≡ under w e (2 ^ (h - 1) + x)
-  unfolding withBit
-  cofactor-on x l = sym (cofactor-with true x) ∙ ap (under w e) (ap (λ (y : ℕ). y + 2 ^ (h - 1)) (mod-eq-of-lt l) ∙ add-comm x (2 ^ (h - 1)))
+  cofactor-on x l = sym (cofactor-with true x) ∙ ap (under w e) (with-on h x l)

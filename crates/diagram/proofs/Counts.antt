@@ -2,17 +2,17 @@
 use Prim.Native.Nat.{ℕ, zero, suc, _+_, _-_, _*_, _/_, _%_, _^_, _≤_, _<_}
 use mathlib.Core.Path.{_≡_, refl, sym, ap, ap₂, _∙_}
 use mathlib.Core.Bool.{Bool, true, false}
-use native.Mathlib.Nat.{le-refl, add-mod-left, mod-eq-of-lt, add-comm, two-pow-succ}
+use native.Mathlib.Nat.{le-refl, add-mod-left}
 use native.Mathlib.Omega.{arith}
 use Rattle.diagram.specs.Format.{Words, settings, root, height, thenEdge, elseEdge}
 use Rattle.diagram.specs.Meaning.{flip, plain, under, permitted}
 use Rattle.diagram.specs.Count.{countBelow, place, total}
 use Rattle.diagram.specs.Reading.{opposite, edgeCount}
 use Rattle.diagram.proofs.CountLaws.{count-cong, count-add, count-not, count-blocks, count-gap}
-use Rattle.diagram.proofs.Bits.{withBit}
+use Rattle.diagram.proofs.Bits.{with-off, with-on, pow-halves}
 use Rattle.diagram.specs.Ordered.{Ordered}
-use Rattle.diagram.proofs.Paths.{height-le-settings}
-use Rattle.diagram.proofs.Local.{under-agree, plain-with}
+use Rattle.diagram.proofs.Paths.{height-le-settings, tall-node, side-lower}
+use Rattle.diagram.proofs.Local.{under-agree, node-with}
 
 pub count-flip : (f : ℕ) (P : ℕ → Bool) (m : ℕ) → countBelow (λ x. flip f (P x)) m ≡ opposite f m (countBelow P m)
 unfolding flip opposite
@@ -38,28 +38,22 @@ module _ (w : Words) (n N : ℕ) (D : Ordered w n N) where
       ∙ ap (λ c. 2 ^ (H - h) * c) (count-flip (e % 2) (plain w (e / 2)) (2 ^ h))
 
   -- the halves of a node, at the setups below its height
-  else-half : (k x : ℕ) → k < N → x < 2 ^ (height w (suc k) - 1) → plain w (suc k) x ≡ under w (elseEdge w (suc k)) x
-  unfolding withBit
-  else-half k x m l = ap (plain w (suc k)) (sym (mod-eq-of-lt l)) ∙ plain-with w n N D false k x m
+  else-half : (k x : ℕ) → 0 < k → k ≤ N → x < 2 ^ (height w k - 1) → plain w k x ≡ under w (elseEdge w k) x
+  else-half k x p m l = ap (plain w k) (sym (with-off (height w k) x l)) ∙ node-with w n N D false k x p m
 
-  then-half : (k x : ℕ) → k < N → x < 2 ^ (height w (suc k) - 1)
-      → plain w (suc k) (2 ^ (height w (suc k) - 1) + x) ≡ under w (thenEdge w (suc k)) x
-  unfolding withBit
-  then-half k x m l =
-      let b = 2 ^ (height w (suc k) - 1) in
-      ap (plain w (suc k)) (add-comm b x ∙ ap (λ y. y + b) (sym (mod-eq-of-lt l))) ∙ plain-with w n N D true k x m
+  then-half : (k x : ℕ) → 0 < k → k ≤ N → x < 2 ^ (height w k - 1) → plain w k (2 ^ (height w k - 1) + x) ≡ under w (thenEdge w k) x
+  then-half k x p m l = ap (plain w k) (sym (with-on (height w k) x l)) ∙ node-with w n N D true k x p m
 
   -- below a bound y under a node: within its else-half, or past it
-  pub below-else : (k y : ℕ) → k < N → y ≤ 2 ^ (height w (suc k) - 1) → countBelow (plain w (suc k)) y ≡ countBelow (under w (elseEdge w (suc k))) y
-  below-else k y m l = count-cong (plain w (suc k)) (under w (elseEdge w (suc k))) y (λ x q. else-half k x m (omega arith))
+  pub below-else : (k y : ℕ) → 0 < k → k ≤ N → y ≤ 2 ^ (height w k - 1) → countBelow (plain w k) y ≡ countBelow (under w (elseEdge w k)) y
+  below-else k y p m l = count-cong (plain w k) (under w (elseEdge w k)) y (λ x q. else-half k x p m (omega arith))
 
-  pub below-then : (k y : ℕ) → k < N → y ≤ 2 ^ (height w (suc k) - 1)
-      → countBelow (plain w (suc k)) (2 ^ (height w (suc k) - 1) + y)
-      ≡ countBelow (under w (elseEdge w (suc k))) (2 ^ (height w (suc k) - 1)) + countBelow (under w (thenEdge w (suc k))) y
-  below-then k y m l =
-      let b = 2 ^ (height w (suc k) - 1) in
-      count-add (plain w (suc k)) b y
-      ∙ ap₂ _+_ (below-else k b m (le-refl b)) (count-cong (λ x. plain w (suc k) (b + x)) (under w (thenEdge w (suc k))) y (λ x q. then-half k x m (omega arith)))
+  pub below-then : (k y : ℕ) → 0 < k → k ≤ N → y ≤ 2 ^ (height w k - 1)
+      → countBelow (plain w k) (2 ^ (height w k - 1) + y) ≡ countBelow (under w (elseEdge w k)) (2 ^ (height w k - 1)) + countBelow (under w (thenEdge w k)) y
+  below-then k y p m l =
+      let b = 2 ^ (height w k - 1) in
+      count-add (plain w k) b y
+      ∙ ap₂ _+_ (below-else k b p m (le-refl b)) (count-cong (λ x. plain w k (b + x)) (under w (thenEdge w k)) y (λ x q. then-half k x p m (omega arith)))
 
   -- ... and under an edge: the whole blocks of its gap, and the rest under its node
   pub below-edge : (e y : ℕ) → e / 2 ≤ N
@@ -71,28 +65,16 @@ module _ (w : Words) (n N : ℕ) (D : Ordered w n N) where
       count-blocks (under w e) b y (λ x. under-period e x m)
       ∙ ap (λ (c : ℕ). y / b * countBelow (under w e) b + c) (count-flip (e % 2) (plain w (e / 2)) (y % b))
 
-  -- a place is the sum of the counts of its node's two edges
-  pub place-node : (k : ℕ) → k < N
-      → place w (suc k) ≡ countBelow (under w (elseEdge w (suc k))) (2 ^ (height w (suc k) - 1)) + countBelow (under w (thenEdge w (suc k))) (2 ^ (height w (suc k) - 1))
+  -- a place is the sum of the counts of its node's two edges: the recursion by which the sheet is filled
+  pub place-rec : (k : ℕ) → 0 < k → k ≤ N → place w k ≡ through w (height w k - 1) (elseEdge w k) + through w (height w k - 1) (thenEdge w k)
   unfolding place
-  place-node k m =
-      let h = height w (suc k) in
-      let t = D .tall k m in
-      let s : suc (h - 1) ≡ h = omega arith in
-      ap (λ (g : ℕ). countBelow (plain w (suc k)) (2 ^ g)) (sym s)
-      ∙ ap (countBelow (plain w (suc k))) (two-pow-succ (h - 1))
-      ∙ below-then k (2 ^ (h - 1)) m (le-refl (2 ^ (h - 1)))
-
-  -- the recursion by which the sheet is filled
-  pub place-rec : (k : ℕ) → k < N → place w (suc k) ≡ through w (height w (suc k) - 1) (elseEdge w (suc k)) + through w (height w (suc k) - 1) (thenEdge w (suc k))
-  place-rec k m =
-      let a = D .else-node k m in
-      let b = D .else-height k m in
-      let c = D .then-node k m in
-      let d = D .then-height k m in
-      let h = height w (suc k) in
-      place-node k m
-      ∙ ap₂ _+_ (count-edge (elseEdge w (suc k)) (h - 1) (omega arith) (omega arith)) (count-edge (thenEdge w (suc k)) (h - 1) (omega arith) (omega arith))
+  place-rec k p m =
+      let h = height w k in
+      let a = side-lower w n N D false k p m in
+      let b = side-lower w n N D true k p m in
+      ap (countBelow (plain w k)) (pow-halves h (tall-node w n N D k p m))
+      ∙ below-then k (2 ^ (h - 1)) p m (le-refl (2 ^ (h - 1)))
+      ∙ ap₂ _+_ (count-edge (elseEdge w k) (h - 1) (omega (arith, a .node)) (omega (arith, a .low))) (count-edge (thenEdge w k) (h - 1) (omega (arith, b .node)) (omega (arith, b .low)))
 
   -- the total, from the root's place
   pub total-root : root w / 2 ≤ N → settings w ≡ n → total w ≡ through w n (root w)

@@ -5,6 +5,7 @@ pub mod Select
 pub mod Paths
 pub mod Local
 pub mod Counts
+pub mod Edges
 pub mod Cofactor
 pub mod Unique
 pub mod Canonical

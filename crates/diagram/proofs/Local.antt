@@ -49,6 +49,11 @@ module _ (w : Words) (n N : ℕ) (D : Ordered w n N) where
       ∙ ap (λ c. under w (side w c (suc k)) (withBit b h x)) (bit-with b h x)
       ∙ under-agree (side w b (suc k)) (h - 1) (withBit b h x) x (omega arith) (omega arith) (with-mod b h x)
 
+  -- the same of a node by its own number
+  pub node-with : (b : Bool) (k x : ℕ) → 0 < k → k ≤ N → plain w k (withBit b (height w k) x) ≡ under w (side w b k) x
+  node-with b zero x p l = absurd (omega arith)
+  node-with b (suc k) x p l = plain-with b k x l
+
 -- the setup with every setting on passes then-edges only, whose flags are clear
 pub plain-ones : (w : Words) (n N : ℕ) → Reduced w n N → (k : ℕ) → k ≤ N → plain w k (2 ^ n - 1) ≡ true
 unfolding plain holds under branch flip

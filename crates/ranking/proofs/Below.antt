@@ -12,11 +12,11 @@ use Rattle.diagram.specs.Meaning.{plain, under}
 use Rattle.diagram.specs.Count.{countBelow}
 use Rattle.diagram.specs.Reading.{opposite}
 use Rattle.diagram.proofs.CountLaws.{count-le}
-use Rattle.diagram.proofs.Paths.{height-le-settings}
+use Rattle.diagram.proofs.Inside.{within-room, within-low}
 use Rattle.diagram.proofs.Counts.{below-edge}
 use Rattle.counting.specs.Inner.{Filled, Opens}
-use Rattle.counting.proofs.Places.{one-shl}
-use Rattle.counting.proofs.Under.{own-room, filled-below}
+use Rattle.counting.proofs.Places.{one-shl, shl-pos}
+use Rattle.counting.proofs.Under.{filled-below}
 use Rattle.ranking.specs.Inner.{IsStep}
 
 -- a sink has no setting, so no setup is below
@@ -33,19 +33,17 @@ module _ (t s : List ℕ) (e v y : ℕ) (F : Filled t s (e / 2)) (v-is : v ≡ e
   node-filled = subst (Filled t s) (sym v-is) F
 
   pub node-room : 8 * v + 8 ≤ length t
-  node-room = own-room t s v node-filled
+  node-room = within-room t v (node-filled .ready .within)
 
   module _ (g : ℕ) (g-is : g ≡ height w v) where
     few : g ≤ 63
-    few =
-        let W = node-filled .ready .within in
-        omega (arith, g-is, height-le-settings w (W .settings) (W .nodes) (W .holds .ordered) v (W .inside), W .holds .few-settings)
+    few = omega (arith, g-is, within-low t v (node-filled .ready .within))
 
     pub edge-opens : Opens t s e g
     edge-opens = record { filled = F; low = omega (arith, g-is, ap (height w) v-is); few = few }
 
     pub some-block : 0 < 1 * 2 ^ g % 18446744073709551616
-    some-block = rw (one-shl g few) (pow-pos g)
+    some-block = shl-pos g few
 
     pub node-opens : Filled t s v × (y % (1 * 2 ^ g % 18446744073709551616) < 2 ^ height w v)
     node-opens = (node-filled, rw (one-shl g few, g-is) (mod-lt y (pow-pos (height w v))))
@@ -76,8 +74,7 @@ module _ (t s : List ℕ) (k y e c rest : ℕ) (F : Filled t s k) (T : IsStep (w
       → inside ≡ countBelow (plain (wordAt t) v) (rest % (1 * 2 ^ g % 18446744073709551616)) → r ≡ rest / 2 ^ g * block + opposite (e % 2) (rest % 2 ^ g) inside
       → y < 2 ^ height (wordAt t) k → (c + r ≡ countBelow (plain (wordAt t) k) y) × (c + r < 18446744073709551616)
   node-sum v g block inside r v-is g-is block-is inside-is r-is l =
-      let W = F .ready .within in
       let q : r ≡ countBelow (under (wordAt t) e) rest = edge-sum t s e v rest step-filled v-is g g-is block inside block-is inside-is r r-is in
       let u : c + r ≡ countBelow (plain (wordAt t) k) y = rw q (sym (T .sum)) in
-      let h : height (wordAt t) k < 64 = omega (arith, height-le-settings (wordAt t) (W .settings) (W .nodes) (W .holds .ordered) k (W .inside), W .holds .few-settings) in
-      (u, omega (arith, u, count-le (plain (wordAt t) k) y, pow-lt {i = height (wordAt t) k} {j = 64} h))
+      let h = within-low t k (F .ready .within) in
+      (u, omega (arith, u, count-le (plain (wordAt t) k) y, pow-lt {i = height (wordAt t) k} {j = 64} (omega (arith, h))))

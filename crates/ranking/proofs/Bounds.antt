@@ -6,26 +6,27 @@ use mathlib.Core.List.{List}
 use mathlib.Core.Option.{Option, none, some}
 use native.Mathlib.Omega.{arith}
 use native.Mathlib.Nat.{lt-of-lt-of-le}
-use lib.Dec.{leb}
 use lib.ListN.{getD}
 use lib.Pow.{pow-mono}
 use Rattle.words.specs.Words.{wordAt}
-use Rattle.words.proofs.Laws.{word-fits}
-use Rattle.diagram.specs.Format.{highField, settings}
+use Rattle.diagram.specs.Format.{settings}
 use Rattle.diagram.specs.Meaning.{permitted}
 use Rattle.diagram.specs.Count.{countBelow, select}
 use Rattle.diagram.specs.Answer.{value, refusal}
 use Rattle.diagram.proofs.CountLaws.{count-le}
-use Rattle.diagram.proofs.Refusals.{Refuses, refuses, passes, unless, then-refuses}
-use Rattle.checking.specs.Operations.{checking}
-use Rattle.checking.proofs.Bounds.{Low, checking-place}
+use Rattle.diagram.proofs.Refusals.{Refuses, refuses, passes, then-refuses}
+use Rattle.checking.specs.Operations.{checking, testSetup}
+use Rattle.checking.proofs.Bounds.{Low, checking-place, test-place, settings-fit}
 use Rattle.ranking.specs.Operations.{rankSetup, ranking, orTooHigh, unrankSetup, unranking}
 use Rattle.ranking.proofs.Numbering.{HasRank, ranked-has, unranked-has}
 
 pub ranking-place : (t : List ℕ) (x : ℕ) (s : List ℕ) → Refuses Low (ranking t x s)
 unfolding ranking rankSetup
-ranking-place t x s = then-refuses Low (checking t s) _ (checking-place t s) λ _ _.
-    unless Low (leb (2 ^ settings (wordAt t)) x) 12 0 (omega arith) (either (permitted (wordAt t) x) (countBelow (permitted (wordAt t)) x))
+ranking-place t x s =
+    let n = settings (wordAt t) in
+    let P = permitted (wordAt t) in
+    then-refuses Low (checking t s) _ (checking-place t s) λ _ _.
+    then-refuses Low (testSetup x n P) _ (test-place x n P) (λ b _. either b (countBelow P x))
   where
     either : (b : Bool) (r : ℕ) → Refuses Low (cond b (value r) (refusal 13 0))
     either true r = passes Low r
@@ -41,10 +42,8 @@ unranking-place t r s = then-refuses Low (checking t s) _ (checking-place t s) (
 
 -- a setup and its rank are below 2 ^ 63
 has-rank-fits : (t : List ℕ) (x r : ℕ) → ((i : ℕ) → getD t i 0 < 256) → HasRank t x r → (x < 2 ^ 63) × (r < 2 ^ 63)
-unfolding settings highField
 has-rank-fits t x r f h =
-    let l : settings (wordAt t) ≤ 63 = omega (arith, word-fits t 0 f) in
-    let x-fits : x < 2 ^ 63 = lt-of-lt-of-le (h .below) (pow-mono l) in
+    let x-fits : x < 2 ^ 63 = lt-of-lt-of-le (h .below) (pow-mono (settings-fit t f)) in
     (x-fits, omega (arith, h .rank, count-le (permitted (wordAt t)) x))
 
 pub rank-fits : (t s : List ℕ) (x r : ℕ) → ((i : ℕ) → getD t i 0 < 256) → ranking t x s ≡ value r → r < 2 ^ 63

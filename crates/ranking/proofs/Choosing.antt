@@ -4,7 +4,7 @@ use mathlib.Core.Path.{_≡_, refl, sym, ap, subst, _∙_}
 use mathlib.Core.Bool.{Bool, true, false}
 use mathlib.Core.List.{List}
 use mathlib.Core.Option.{some}
-use native.Mathlib.Nat.{two-pow-succ, zero-mul, zero-add, mul-le-mul-left}
+use native.Mathlib.Nat.{zero-mul, zero-add, mul-le-mul-left}
 use native.Mathlib.Omega.{arith}
 use lib.Pow.{pow-pos, pow-lt}
 use Rattle.words.specs.Words.{wordAt}
@@ -12,6 +12,7 @@ use Rattle.diagram.specs.Format.{Words}
 use Rattle.diagram.specs.Meaning.{under}
 use Rattle.diagram.specs.Count.{indicator, countBelow, select}
 use Rattle.diagram.specs.Reading.{Within, cofactor}
+use Rattle.diagram.proofs.Bits.{pow-halves}
 use Rattle.diagram.proofs.CountLaws.{count-cong, count-add}
 use Rattle.diagram.proofs.Select.{Selected, select-of}
 use Rattle.diagram.proofs.Cofactor.{cofactor-off, cofactor-on}
@@ -48,7 +49,7 @@ module _ (t s : List ℕ) (n root asked h e left x : ℕ) (O : Opens t s e h) (t
   base = x * 2 ^ h
 
   halves : 2 ^ h ≡ half + half
-  halves = let e : suc (h - 1) ≡ h = omega arith in ap (λ (g : ℕ). 2 ^ g) (sym e) ∙ two-pow-succ (h - 1)
+  halves = pow-halves h tall
 
   off-base : x * 2 * half ≡ base
   off-base = rw halves (omega arith)

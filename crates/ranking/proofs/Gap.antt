@@ -5,9 +5,8 @@ use mathlib.Core.Bool.{Bool, true, false}
 use native.Mathlib.Omega.{arith}
 use native.Mathlib.Nat.{mul-le-mul-left, div-add-mod'}
 use lib.Dec.{eqb}
-use lib.Pow.{pow-pos}
-use borrow.Author.Tests.{eqb-true, eqb-false}
 use Rattle.diagram.specs.Reading.{opposite}
+use Rattle.diagram.proofs.Edges.{opposite-set, opposite-clear}
 use Rattle.counting.proofs.Places.{one-shl}
 
 module _ (y g block inside e : ℕ) (few : g ≤ 63) (block-le : block ≤ 2 ^ g) (inside-le : inside ≤ y % 2 ^ g) (fits : y < 18446744073709551616) where
@@ -16,9 +15,6 @@ module _ (y g block inside e : ℕ) (few : g ≤ 63) (block-le : block ≤ 2 ^ g
 
   pub product-fits : y / 2 ^ g * block < 18446744073709551616
   product-fits = omega (arith, whole)
-
-  pub no-zero : 0 < 1 * 2 ^ g % 18446744073709551616
-  no-zero = rw (one-shl g few) (pow-pos g)
 
   pub inside-rest : inside ≤ y % (1 * 2 ^ g % 18446744073709551616)
   inside-rest = rw (one-shl g few) inside-le
@@ -31,12 +27,7 @@ module _ (y g block inside e : ℕ) (few : g ≤ 63) (block-le : block ≤ 2 ^ g
 
   module _ (f : Bool) (f-is : f ≡ eqb (e % 2) 1) where
     pub flagged-is : f ≡ true → y / 2 ^ g * block + (y % (1 * 2 ^ g % 18446744073709551616) - inside) ≡ y / 2 ^ g * block + opposite (e % 2) (y % 2 ^ g) inside
-    unfolding opposite
-    flagged-is q = rw (one-shl g few, eqb-true (e % 2) 1 (sym f-is ∙ q))
+    flagged-is q = rw (one-shl g few, opposite-set e f f-is q (y % 2 ^ g) inside)
 
     pub plain-is : f ≡ false → y / 2 ^ g * block + inside ≡ y / 2 ^ g * block + opposite (e % 2) (y % 2 ^ g) inside
-    unfolding opposite
-    plain-is q =
-        let o : e % 2 ≡ 1 → ⊥ = eqb-false (e % 2) 1 (sym f-is ∙ q) in
-        let z : e % 2 ≡ 0 = omega arith in
-        rw z
+    plain-is q = rw (opposite-clear e f f-is q (y % 2 ^ g) inside)

@@ -16,7 +16,7 @@ use Rattle.diagram.specs.Answer.{value, refusal, andThen}
 use Rattle.diagram.proofs.CountLaws.{count-mono-lt}
 use Rattle.diagram.proofs.AnswerLaws.{refused-not, value-inj, then-some}
 use Rattle.diagram.proofs.Select.{Selected, select-some, select-of, ranked}
-use Rattle.checking.specs.Operations.{checking}
+use Rattle.checking.specs.Operations.{checking, testSetup}
 use Rattle.ranking.specs.Operations.{rankSetup, ranking, orTooHigh, unrankSetup, unranking}
 
 -- setup x has rank r in table t: it is below 2 ^ n, permitted, and exactly r smaller ones are
@@ -25,17 +25,18 @@ HasRank t x r = Selected (permitted (wordAt t)) (2 ^ settings (wordAt t)) r x
 
 module _ (n : ℕ) (P : ℕ → Bool) (x r : ℕ) where
   rank-selects : rankSetup x n P ≡ value r → Selected P (2 ^ n) r x
-  unfolding rankSetup
+  unfolding rankSetup testSetup
   rank-selects e =
-      let a = passed (leb (2 ^ n) x) refused-not e in
-      go (P x) refl (leb-false (2 ^ n) x (a .0)) (a .1)
+      let a = then-some (testSetup x n P) _ e in
+      let b = passed (leb (2 ^ n) x) refused-not (a .1) in
+      go (a .0) (value-inj (b .1)) (leb-false (2 ^ n) x (b .0)) (a .2)
     where
       go : (b : Bool) → P x ≡ b → x < 2 ^ n → cond b (value (countBelow P x)) (refusal 13 0) ≡ value r → Selected P (2 ^ n) r x
       go true p l q = record { below = l; passes = p; rank = value-inj q }
       go false p l q = absurd (refused-not q)
 
   selects-rank : Selected P (2 ^ n) r x → rankSetup x n P ≡ value r
-  unfolding rankSetup
+  unfolding rankSetup testSetup andThen
   selects-rank s = rw (lt-leb (2 ^ n) x (s .below), s .passes) (ap value (s .rank))
 
   unrank-selects : unrankSetup r n P ≡ value x → Selected P (2 ^ n) r x

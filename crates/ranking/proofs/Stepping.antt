@@ -1,14 +1,15 @@
 -- A setup leaves a node: what it passes over, and what is left, in the terms of the code. Assumes nothing.
-use Prim.Native.Nat.{ℕ, zero, suc, _+_, _-_, _*_, _/_, _%_, _^_, _≤_, _<_}
+use Prim.Native.Nat.{ℕ, _+_, _-_, _*_, _/_, _%_, _^_, _≤_, _<_}
 use mathlib.Core.Path.{_≡_, sym, ap, _∙_}
 use mathlib.Core.List.{List}
-use native.Mathlib.Nat.{two-pow-succ, zero-add}
+use native.Mathlib.Nat.{zero-add, le-of-lt}
 use native.Mathlib.Omega.{arith}
 use Rattle.words.specs.Words.{wordAt}
 use Rattle.diagram.specs.Format.{Words, height, thenEdge, elseEdge}
 use Rattle.diagram.specs.Meaning.{plain, under}
 use Rattle.diagram.specs.Count.{countBelow}
 use Rattle.diagram.specs.Reading.{IsRecord, Within}
+use Rattle.diagram.proofs.Bits.{pow-halves}
 use Rattle.diagram.proofs.Paths.{Lower}
 use Rattle.diagram.proofs.Inside.{inside-tall, high-lower, low-lower}
 use Rattle.diagram.proofs.Counts.{below-else, below-then}
@@ -48,23 +49,15 @@ module _ (t s : List ℕ) (k y h a b : ℕ) (p : 0 < k) (F : Filled t s k) (l : 
   pub step-low : y < 1 * 2 ^ (h - 1) % 18446744073709551616 → IsStep w k y b 0 y
   step-low i =
       let j : y < 2 ^ (h - 1) = rw half at i in
-      goes b 0 y low-node j (rw (r .else-is) (all k p (W .inside) (rw (← r .height-is) j) ∙ sym (zero-add (countBelow (under w (elseEdge w k)) y))))
-    where
-      all : (k : ℕ) → 0 < k → k ≤ W .nodes → y < 2 ^ (height w k - 1) → countBelow (plain w k) y ≡ countBelow (under w (elseEdge w k)) y
-      all zero p m j = absurd (omega arith)
-      all (suc k) p m j = below-else w (W .settings) (W .nodes) (W .holds .ordered) k y m (omega arith)
+      let q = below-else w (W .settings) (W .nodes) (W .holds .ordered) k y p (W .inside) (rw (← r .height-is) (le-of-lt j)) in
+      goes b 0 y low-node j (rw (r .else-is) (q ∙ sym (zero-add (countBelow (under w (elseEdge w k)) y))))
 
   pub step-high : 1 * 2 ^ (h - 1) % 18446744073709551616 ≤ y → (c : ℕ) → c ≡ countBelow (under w b) (2 ^ (h - 1)) → IsStep w k y a c (y - 1 * 2 ^ (h - 1) % 18446744073709551616)
   step-high i c q =
       let j : 2 ^ (h - 1) ≤ y = rw half at i in
-      let top : suc (h - 1) ≡ height w k = omega (arith, tall, r .height-is) in
-      let u : y < 2 ^ (h - 1) + 2 ^ (h - 1) = omega (arith, two-pow-succ (h - 1), ap (λ (g : ℕ). 2 ^ g) top) in
+      let u : y < 2 ^ (h - 1) + 2 ^ (h - 1) = omega (arith, pow-halves h tall, ap (λ (g : ℕ). 2 ^ g) (r .height-is)) in
       let v : 2 ^ (h - 1) + (y - 2 ^ (h - 1)) ≡ y = omega arith in
+      let o = below-then w (W .settings) (W .nodes) (W .holds .ordered) k (y - 2 ^ (height w k - 1)) p (W .inside) (rw (← r .height-is) (omega arith)) in
       rw half
       (goes a c (y - 2 ^ (h - 1)) (high-lower t k h a b p W r) (omega arith)
-      (ap (countBelow (plain w k)) (sym v) ∙ rw (q, r .height-is, r .then-is, r .else-is) (all k p (W .inside) (y - 2 ^ (height w k - 1)) (rw (← r .height-is) (omega arith)))))
-    where
-      all : (k : ℕ) → 0 < k → k ≤ W .nodes → (x : ℕ) → x ≤ 2 ^ (height w k - 1)
-          → countBelow (plain w k) (2 ^ (height w k - 1) + x) ≡ countBelow (under w (elseEdge w k)) (2 ^ (height w k - 1)) + countBelow (under w (thenEdge w k)) x
-      all zero p m x j = absurd (omega arith)
-      all (suc k) p m x j = below-then w (W .settings) (W .nodes) (W .holds .ordered) k x m j
+      (ap (countBelow (plain w k)) (sym v) ∙ rw (q, r .height-is, r .then-is, r .else-is) o))

@@ -3,17 +3,16 @@ use Prim.Native.Nat.{ℕ, _^_}
 use mathlib.Core.Bool.{Bool, cond}
 use mathlib.Core.List.{List}
 use mathlib.Core.Option.{Option, none, some}
-use lib.Dec.{leb}
 use Rattle.words.specs.Words.{wordAt}
 use Rattle.diagram.specs.Format.{settings}
 use Rattle.diagram.specs.Meaning.{permitted}
 use Rattle.diagram.specs.Count.{countBelow, select}
 use Rattle.diagram.specs.Answer.{Answer, value, refusal, andThen}
-use Rattle.checking.specs.Operations.{checking}
+use Rattle.checking.specs.Operations.{checking, testSetup}
 
--- rules 12 and 13, and the rank of setup x of n settings: how many smaller ones P permits
+-- the rank of setup x of n settings: how many smaller ones P permits; or rule 13, where the test answers no
 unfoldable pub rankSetup : ℕ → ℕ → (ℕ → Bool) → Answer ℕ
-rankSetup x n P = cond (leb (2 ^ n) x) (refusal 12 0) (cond (P x) (value (countBelow P x)) (refusal 13 0))
+rankSetup x n P = andThen (testSetup x n P) (λ b. cond b (value (countBelow P x)) (refusal 13 0))
 
 -- ranking: the rank of setup x (its number in lexicographic order), after the table's own refusals
 unfoldable pub ranking : List ℕ → ℕ → List ℕ → Answer ℕ

@@ -10,6 +10,7 @@ ghost use Rattle.ranking.specs.Answers.{rankedAs, unrankedAs};
 ghost use Rattle.ranking.specs.Operations.{rankSetup, ranking, unrankSetup, unranking};
 ghost use Rattle.counting.specs.Inner.{Opens};
 use checking::Checked;
+use checking::Tested;
 use diagram::Edge;
 use diagram::Rank;
 use diagram::Setup;
@@ -25,22 +26,25 @@ pub enum Unranked {
     Refused(Refusal),
 }
 
-// Rules 12 and 13, and the rank of setup x among those of n settings that edge e permits.
+// The rank of setup x among those of n settings that edge e permits, or rule 12, or rule 13.
 fn rank_setup(table: &[u8], sheet: &[u8], n: u64, e: Edge, x: Setup) -> Ranked
     requires { ⌜ Opens (now table) (now sheet) (e .value) n ⌝ }
     ensures { λ r. ⌜ rankedAs r ≡ rankSetup (x .0) n (under (wordAt (now (table .entry))) (e .value)) ⌝ }
 {
-    if 1 << n <= x.0 {
-        return Ranked::Refused(Refusal::SetupRange);
+    let tested = checking::test_setup(table, n, e, x);
+    match tested {
+        Tested::Permitted(yes) => {
+            if yes {
+                let r = smaller::rank_under(table, sheet, e, x);
+                return Ranked::At(r);
+            }
+            Ranked::Refused(Refusal::Unpermitted)
+        }
+        Tested::Refused(r) => Ranked::Refused(r),
     }
-    if checking::permitted_under(table, e, x) {
-        let r = smaller::rank_under(table, sheet, e, x);
-        return Ranked::At(r);
-    }
-    Ranked::Refused(Refusal::Unpermitted)
 }
 
-// Rule 14, and the setup of rank r among those of n settings that edge e permits.
+// The setup of rank r among those of n settings that edge e permits, or rule 14.
 fn unrank_setup(table: &[u8], sheet: &[u8], n: u64, e: Edge, r: Rank) -> Unranked
     requires { ⌜ Opens (now table) (now sheet) (e .value) n ⌝ }
     ensures { λ a. ⌜ unrankedAs a ≡ unrankSetup (r .0) n (under (wordAt (now (table .entry))) (e .value)) ⌝ }

@@ -2,3 +2,4 @@
 pub mod Headers
 pub mod Records
 pub mod Turns
+pub mod Packing

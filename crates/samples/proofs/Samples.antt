@@ -10,7 +10,7 @@ use Rattle.diagram.specs.Answer.{value, andThen, each}
 use Rattle.diagram.specs.Rules.{misled, checkRecord, names, named, checkNamed, checkHeader, checkRecords, checkNames, checkDiagram, check}
 use Rattle.diagram.proofs.Counts.{total-root}
 use Rattle.diagram.proofs.Accept.{accepts-accepted}
-use Rattle.checking.specs.Operations.{checking, counting}
+use Rattle.checking.specs.Operations.{checking, counting, testSetup}
 use Rattle.ranking.specs.Operations.{rankSetup, ranking, orTooHigh, unrankSetup, unranking}
 use Rattle.division.specs.Span.{size, start}
 use Rattle.division.specs.Operations.{noPart, spanOf, spanning}
@@ -27,6 +27,6 @@ unfolding full table sheet counting checking settings nodes root wordAt beAt byt
 full-count = ap value full-total
 
 pub samples-hold : All samples
-unfolding table A A′ full single empty members setups sheet parts All samples beAt wordAt bytesOf highField middleField lowField settings nodes root height thenEdge elseEdge bit branch flip holds plain under permitted indicator countBelow select someBelow place total andThen each misled checkRecord names named checkNamed checkHeader checkRecords checkNames checkDiagram check checking counting rankSetup ranking orTooHigh unrankSetup unranking size start noPart spanOf spanning
+unfolding table A A′ full single empty members setups sheet parts All samples beAt wordAt bytesOf highField middleField lowField settings nodes root height thenEdge elseEdge bit branch flip holds plain under permitted indicator countBelow select someBelow place total andThen each misled checkRecord names named checkNamed checkHeader checkRecords checkNames checkDiagram check checking counting testSetup rankSetup ranking orTooHigh unrankSetup unranking size start noPart spanOf spanning
 samples-hold =
     (refl, (refl, (refl, (refl, (refl, (refl, (refl, (refl, (refl, (refl, (refl, (refl, (refl, (full-count, (refl, (refl, (refl, (refl, tt))))))))))))))))))

@@ -1,6 +1,6 @@
 -- `checking::test_setup` meets its contract. Assumes nothing.
 use borrow.Author.Needs.{needs}
-use Rattle.checking.proofs.Accepting.{too-large, tested}
+use Rattle.checking.proofs.Answering.{too-large, tested}
 use Rattle.checking.proofs.test_setup.Statement.{statement}
 use Rattle.checking.proofs.test_setup.Tie as tie
 

@@ -1,7 +1,7 @@
 -- `console::setupbook_unrank` meets its contract. Assumes nothing.
 use mathlib.Core.Path.{sym, ap, _∙_}
 use borrow.Author.Needs.{needs}
-use Rattle.rules.specs.Packed.{packed}
+use Rattle.rules.proofs.Packing.{packed-value, packed-refusal}
 use Rattle.ranking.specs.Answers.{unrankedAs}
 use Rattle.ranking.proofs.Bounds.{unranking-place}
 use Rattle.console.proofs.setupbook_unrank.Statement.{statement}
@@ -11,12 +11,10 @@ pack-refusal-requires : tie.Need-pack-refusal-requires
 pack-refusal-requires c κs = unranking-place _ _ _ _ _ (sym (c .before .before .before .before .before .unrank .ensures .0) ∙ ap unrankedAs (c .before .unranked2 .given .1))
 
 returns : tie.Need-returns
-unfolding packed
-returns c = let e = c .before .before .before .before .before .unrank .ensures in (sym (ap (packed _) (sym (e .0) ∙ ap unrankedAs (c .before .unranked .given .1))), e .1)
+returns c = let e = c .before .before .before .before .before .unrank .ensures in (packed-value _ _ _ (e .0) _ (ap unrankedAs (c .before .unranked .given .1)), e .1)
 
 returns-2 : tie.Need-returns-2
-unfolding packed
-returns-2 c = let e = c .before .before .before .before .before .before .unrank .ensures in (c .pack-refusal .ensures ∙ sym (ap (packed _) (sym (e .0) ∙ ap unrankedAs (c .before .before .unranked2 .given .1))), e .1)
+returns-2 c = let e = c .before .before .before .before .before .before .unrank .ensures in (packed-refusal _ _ _ (e .0) _ _ _ (ap unrankedAs (c .before .before .unranked2 .given .1)) (c .pack-refusal .ensures), e .1)
 
 pub setupbook-unrank-spec : {M : Type 1} → statement M
 setupbook-unrank-spec =

@@ -3,16 +3,16 @@ use mathlib.Core.Path.{ap, _∙_}
 use borrow.Author.Needs.{needs}
 use Rattle.words.specs.Words.{wordAt}
 use Rattle.diagram.specs.Format.{height}
-use Rattle.diagram.proofs.Inside.{inside-tall, high-lower, low-lower, lower-room}
+use Rattle.diagram.proofs.Inside.{within-room, lower-within, inside-tall, high-lower, low-lower}
 use Rattle.counting.proofs.Nodes.{ready-high, ready-low, place-sum}
 use Rattle.counting.proofs.count_node.Statement.{statement}
 use Rattle.counting.proofs.count_node.Tie as tie
 
 height-at-requires : tie.Need-height-at-requires
-height-at-requires c κs = let a = c .before .before .before in rw (c .node .ensures) (lower-room _ _ _ _ _ (a .pre .0) (a .pre .1 .within) (a .pre .2) _ (high-lower _ _ _ _ _ (a .pre .0) (a .pre .1 .within) (a .pre .2)))
+height-at-requires c κs = let a = c .before .before .before in rw (c .node .ensures) (within-room _ _ (lower-within _ _ (a .pre .1 .within) _ (high-lower _ _ _ _ _ (a .pre .0) (a .pre .1 .within) (a .pre .2))))
 
 height-at-requires-2 : tie.Need-height-at-requires-2
-height-at-requires-2 c κs = let a = c .before .before .before .before .before in rw (c .node2 .ensures) (lower-room _ _ _ _ _ (a .pre .0) (a .pre .1 .within) (a .pre .2) _ (low-lower _ _ _ _ _ (a .pre .0) (a .pre .1 .within) (a .pre .2)))
+height-at-requires-2 c κs = let a = c .before .before .before .before .before in rw (c .node2 .ensures) (within-room _ _ (lower-within _ _ (a .pre .1 .within) _ (low-lower _ _ _ _ _ (a .pre .0) (a .pre .1 .within) (a .pre .2))))
 
 sub-h : tie.Need-sub-h
 sub-h c = let a = c .before .before .before .before .before .before .before in inside-tall _ _ _ _ _ (a .pre .0) (a .pre .1 .within) (a .pre .2)

@@ -1,11 +1,12 @@
 -- `counting::count_under` meets its contract. Assumes nothing.
 use borrow.Author.Needs.{needs}
-use Rattle.counting.proofs.Under.{own-room, under-countable, under-counted}
+use Rattle.diagram.proofs.Inside.{within-room}
+use Rattle.counting.proofs.Under.{under-countable, under-counted}
 use Rattle.counting.proofs.count_under.Statement.{statement}
 use Rattle.counting.proofs.count_under.Tie as tie
 
 height-at-requires : tie.Need-height-at-requires
-height-at-requires c κs = let a = c .before .before .before in rw (c .node .ensures) (own-room _ _ _ (a .pre .filled))
+height-at-requires c κs = let a = c .before .before .before in rw (c .node .ensures) (within-room _ _ (a .pre .filled .ready .within))
 
 count-edge-requires : tie.Need-count-edge-requires
 count-edge-requires c κs = let p = c .before .before .before .before .pre in under-countable _ _ _ _ _ _ p (c .before .node .ensures) (c .height-at .ensures .0)

@@ -3,7 +3,7 @@ use mathlib.Core.Path.{sym, ap, _∙_}
 use borrow.Author.Needs.{needs}
 use native.Mathlib.Omega.{arith}
 use Rattle.checking.specs.Answers.{checkedAs}
-use Rattle.rules.specs.Packed.{packed}
+use Rattle.rules.proofs.Packing.{packed-value, packed-refusal}
 use Rattle.checking.proofs.Bounds.{checking-place, shape-fits}
 use Rattle.harness.proofs.setupbook_check.Statement.{statement}
 use Rattle.harness.proofs.setupbook_check.Tie as tie
@@ -24,12 +24,10 @@ pack-refusal-requires : tie.Need-pack-refusal-requires
 pack-refusal-requires c κs = checking-place _ _ _ _ (sym (c .before .before .before .before .before .check .ensures .0) ∙ ap checkedAs (c .before .checked2 .given .1))
 
 returns : tie.Need-returns
-unfolding packed
-returns c = let e = c .before .before .before .before .before .before .check .ensures in (sym (ap (packed _) (sym (e .0) ∙ ap checkedAs (c .before .before .checked .given .1))), e .1)
+returns c = let e = c .before .before .before .before .before .before .check .ensures in (packed-value _ _ _ (e .0) _ (ap checkedAs (c .before .before .checked .given .1)), e .1)
 
 returns-2 : tie.Need-returns-2
-unfolding packed
-returns-2 c = let e = c .before .before .before .before .before .before .check .ensures in (c .pack-refusal .ensures ∙ sym (ap (packed _) (sym (e .0) ∙ ap checkedAs (c .before .before .checked2 .given .1))), e .1)
+returns-2 c = let e = c .before .before .before .before .before .before .check .ensures in (packed-refusal _ _ _ (e .0) _ _ _ (ap checkedAs (c .before .before .checked2 .given .1)) (c .pack-refusal .ensures), e .1)
 
 pub setupbook-check-spec : {M : Type 1} → statement M
 setupbook-check-spec =

@@ -5,7 +5,7 @@ use mir.Val.{boolByte}
 use borrow.Author.Needs.{needs}
 use Rattle.diagram.specs.Count.{indicator}
 use Rattle.checking.specs.Answers.{testedAs}
-use Rattle.rules.specs.Packed.{packed}
+use Rattle.rules.proofs.Packing.{packed-value, packed-refusal}
 use Rattle.checking.proofs.Bounds.{testing-place}
 use Rattle.harness.proofs.setupbook_test.Statement.{statement}
 use Rattle.harness.proofs.setupbook_test.Tie as tie
@@ -19,14 +19,12 @@ pack-refusal-requires : tie.Need-pack-refusal-requires
 pack-refusal-requires c κs = testing-place _ _ _ _ _ (sym (c .before .before .before .before .before .test .ensures .0) ∙ ap testedAs (c .before .tested2 .given .1))
 
 returns : tie.Need-returns
-unfolding packed
 returns c =
     let e = c .before .before .before .before .before .test .ensures in
-    (bool-byte _ ∙ sym (ap (packed indicator) (sym (e .0) ∙ ap testedAs (c .before .tested .given .1))), e .1)
+    (bool-byte _ ∙ packed-value _ _ _ (e .0) _ (ap testedAs (c .before .tested .given .1)), e .1)
 
 returns-2 : tie.Need-returns-2
-unfolding packed
-returns-2 c = let e = c .before .before .before .before .before .before .test .ensures in (c .pack-refusal .ensures ∙ sym (ap (packed _) (sym (e .0) ∙ ap testedAs (c .before .before .tested2 .given .1))), e .1)
+returns-2 c = let e = c .before .before .before .before .before .before .test .ensures in (packed-refusal _ _ _ (e .0) _ _ _ (ap testedAs (c .before .before .tested2 .given .1)) (c .pack-refusal .ensures), e .1)
 
 pub setupbook-test-spec : {M : Type 1} → statement M
 setupbook-test-spec =

@@ -1,30 +1,25 @@
--- `ranking::rank_setup` meets its contract. Assumes nothing.
-use native.Mathlib.Omega.{arith}
-use Rattle.ranking.proofs.Answering.{too-large, unpermitted, ranked-at}
+-- `ranking::rank_setup` meets its contract: by the answer of the test. Assumes nothing.
+use mathlib.Core.Path.{ap}
+use borrow.Author.Needs.{needs}
+use Rattle.checking.specs.Answers.{testedAs}
+use Rattle.ranking.proofs.Answering.{test-refused, unpermitted, ranked-at}
 use Rattle.ranking.proofs.rank_setup.Statement.{statement}
 use Rattle.ranking.proofs.rank_setup.Tie as tie
 
-shl-if1 : tie.Need-shl-if1
-shl-if1 c = omega (arith, c .before .before .pre .few)
-
 returns : tie.Need-returns
-returns c = too-large _ _ _ (c .before .before .before .before .pre .few) (c .if1 .taken)
-
-permitted-under-requires : tie.Need-permitted-under-requires
-permitted-under-requires c κs = c .before .before .before .before .pre .filled .ready .within
-
-rank-under-requires : tie.Need-rank-under-requires
-rank-under-requires c κs = c .before .before .before .before .before .before .pre .filled
+returns c =
+    let a = c .before .before in
+    ranked-at _ _ _ _ (a .before .before .before .test-setup .ensures) _ (ap testedAs (a .before .tested .given .1)) (c .before .if1 .taken) _ (c .rank-under .ensures)
 
 returns-2 : tie.Need-returns-2
 returns-2 c =
-    let a = c .before .before in
-    ranked-at _ _ _ (a .before .before .before .before .before .pre .few) (a .before .if1 .left) _ (a .permitted-under .ensures) (c .before .if2 .taken) _ (c .rank-under .ensures)
+    let a = c .before in
+    unpermitted _ _ _ _ (a .before .before .before .test-setup .ensures) _ (ap testedAs (a .before .tested .given .1)) (c .if1 .left)
 
 returns-3 : tie.Need-returns-3
-returns-3 c =
-    let a = c .before in
-    unpermitted _ _ _ (a .before .before .before .before .before .pre .few) (a .before .if1 .left) _ (a .permitted-under .ensures) (c .if2 .left)
+returns-3 c = test-refused _ _ _ _ (c .before .before .before .test-setup .ensures) _ _ (ap testedAs (c .before .tested2 .given .1))
 
 pub rank-setup-spec : {M : Type 1} → statement M
-rank-setup-spec = tie.close (tie.spec shl-if1 returns permitted-under-requires rank-under-requires returns-2 returns-3)
+rank-setup-spec =
+    tie.close
+    (tie.spec (λ c κs. search needs) (λ c. search needs) (λ c κs. search needs) returns (λ c. search needs) returns-2 returns-3)

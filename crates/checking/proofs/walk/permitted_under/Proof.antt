@@ -2,7 +2,7 @@
 use mathlib.Core.Path.{sym, subst, _∙_}
 use borrow.Author.Needs.{needs}
 use Rattle.diagram.specs.Reading.{Within}
-use Rattle.checking.proofs.Walking.{under-flagged, under-plain}
+use Rattle.diagram.proofs.Edges.{under-flagged, under-plain}
 use Rattle.checking.proofs.walk.permitted_under.Statement.{statement}
 use Rattle.checking.proofs.walk.permitted_under.Tie as tie
 
@@ -13,10 +13,10 @@ permitted-plain-requires : tie.Need-permitted-plain-requires
 permitted-plain-requires c κs = subst (Within _) (sym (c .node2 .ensures)) (c .before .before .before .before .pre)
 
 returns : tie.Need-returns
-returns c = c .permitted-flagged .ensures ∙ under-flagged _ _ _ _ _ (c .before .before .before .flagged .ensures) (c .before .node .ensures) (c .before .before .if1 .taken)
+returns c = c .permitted-flagged .ensures ∙ under-flagged _ _ (c .before .before .before .flagged .ensures) _ _ _ (c .before .node .ensures) (c .before .before .if1 .taken)
 
 returns-2 : tie.Need-returns-2
-returns-2 c = c .permitted-plain .ensures ∙ under-plain _ _ _ _ _ (c .before .before .before .flagged .ensures) (c .before .node2 .ensures) (c .before .before .if1 .left)
+returns-2 c = c .permitted-plain .ensures ∙ under-plain _ _ (c .before .before .before .flagged .ensures) _ _ _ (c .before .node2 .ensures) (c .before .before .if1 .left)
 
 pub permitted-under-spec : {M : Type 1} → statement M
 permitted-under-spec =

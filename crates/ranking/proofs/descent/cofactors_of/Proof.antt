@@ -2,7 +2,8 @@
 use mathlib.Core.Bool.{true, false}
 use borrow.Author.Needs.{needs}
 use Rattle.diagram.proofs.Cofactor.{passes-below, goes-on}
-use Rattle.ranking.proofs.Opening.{within-room, high-node}
+use Rattle.diagram.proofs.Inside.{within-room}
+use Rattle.ranking.proofs.Opening.{high-node}
 use Rattle.ranking.proofs.descent.cofactors_of.Statement.{statement}
 use Rattle.ranking.proofs.descent.cofactors_of.Tie as tie
 

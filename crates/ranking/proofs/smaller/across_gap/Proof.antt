@@ -1,6 +1,7 @@
 -- `ranking::smaller::across_gap` meets its contract. Assumes nothing.
 use borrow.Author.Needs.{needs}
-use Rattle.ranking.proofs.Gap.{product-fits, no-zero, inside-rest, flagged-fits, plain-fits, flagged-is, plain-is}
+use Rattle.counting.proofs.Places.{shl-pos}
+use Rattle.ranking.proofs.Gap.{product-fits, inside-rest, flagged-fits, plain-fits, flagged-is, plain-is}
 use Rattle.ranking.proofs.smaller.across_gap.Statement.{statement}
 use Rattle.ranking.proofs.smaller.across_gap.Tie as tie
 
@@ -8,7 +9,7 @@ mul-before : tie.Need-mul-before
 mul-before c = let p = c .before .pre in record { fits = product-fits _ _ _ _ 0 (p .0) (p .1) (p .2) (c .struct-known .given .0 .fits) }
 
 rem-t10 : tie.Need-rem-t10
-rem-t10 c = let p = c .before .before .before .before .pre in no-zero _ _ _ _ 0 (p .0) (p .1) (p .2) (c .struct-known2 .given .0 .fits)
+rem-t10 c = shl-pos _ (c .before .before .before .before .pre .0)
 
 sub-t11 : tie.Need-sub-t11
 sub-t11 c = let a = c .before .before .before .before in inside-rest _ _ _ _ 0 (a .before .pre .0) (a .before .pre .1) (a .before .pre .2) (a .struct-known .given .0 .fits)

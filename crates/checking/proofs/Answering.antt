@@ -1,0 +1,17 @@
+-- Rule 12 and the answer of the test, in the terms of the code. Assumes nothing.
+use Prim.Native.Nat.{ℕ, _*_, _%_, _^_, _≤_, _<_}
+use mathlib.Core.Path.{_≡_}
+use mathlib.Core.Bool.{Bool}
+use borrow.Author.Tests.{le-leb, lt-leb}
+use Rattle.diagram.specs.Answer.{value, refusal}
+use Rattle.counting.proofs.Places.{one-shl}
+use Rattle.checking.specs.Operations.{testSetup}
+
+module _ (n x : ℕ) (P : ℕ → Bool) (few : n ≤ 63) where
+  pub too-large : 1 * 2 ^ n % 18446744073709551616 ≤ x → refusal 12 0 ≡ testSetup x n P
+  unfolding testSetup
+  too-large l = rw (le-leb (2 ^ n) x (rw (one-shl n few) at l))
+
+  pub tested : x < 1 * 2 ^ n % 18446744073709551616 → (b : Bool) → b ≡ P x → value b ≡ testSetup x n P
+  unfolding testSetup
+  tested l b q = rw (lt-leb (2 ^ n) x (rw (one-shl n few) at l), q)

@@ -1,0 +1,64 @@
+-- Edges by their flags: what code does at a set flag and at a clear one, and complements. Assumes nothing.
+use Prim.Native.Nat.{ℕ, zero, suc, _+_, _-_, _*_, _/_, _%_, _<_}
+use mathlib.Core.Path.{_≡_, refl, sym, ap, _∙_}
+use mathlib.Core.Bool.{Bool, true, false, not, Bool·not-not}
+use native.Mathlib.Omega.{arith}
+use lib.Dec.{eqb}
+use borrow.Author.Tests.{eqb-true, eqb-false}
+use Rattle.diagram.specs.Format.{Words}
+use Rattle.diagram.specs.Meaning.{flip, plain, under}
+use Rattle.diagram.specs.Count.{indicator}
+use Rattle.diagram.specs.Reading.{opposite, turn}
+
+-- the flag f of edge e
+module _ (e : ℕ) (f : Bool) (f-is : f ≡ eqb (e % 2) 1) where
+  flag-set : f ≡ true → e % 2 ≡ 1
+  flag-set q = eqb-true (e % 2) 1 (sym f-is ∙ q)
+
+  flag-clear : f ≡ false → e % 2 ≡ 0
+  flag-clear q = let o : e % 2 ≡ 1 → ⊥ = eqb-false (e % 2) 1 (sym f-is ∙ q) in omega arith
+
+  -- a count of m under it
+  pub opposite-set : f ≡ true → (m c : ℕ) → opposite (e % 2) m c ≡ m - c
+  unfolding opposite
+  opposite-set q m c = rw (flag-set q)
+
+  pub opposite-clear : f ≡ false → (m c : ℕ) → opposite (e % 2) m c ≡ c
+  unfolding opposite
+  opposite-clear q m c = rw (flag-clear q)
+
+  -- what it permits, with v as its node
+  pub under-flagged : (w : Words) (x v : ℕ) → v ≡ e / 2 → f ≡ true → not (plain w v x) ≡ under w e x
+  unfolding under flip
+  under-flagged w x v v-is q = rw (flag-set q, v-is)
+
+  pub under-plain : (w : Words) (x v : ℕ) → v ≡ e / 2 → f ≡ false → plain w v x ≡ under w e x
+  unfolding under flip
+  under-plain w x v v-is q = rw (flag-clear q, v-is)
+
+-- the flag as a number
+pub flag-is : (f : ℕ) → f < 2 → indicator (eqb f 1) ≡ f
+unfolding indicator
+flag-is zero l = refl
+flag-is (suc zero) l = refl
+flag-is (suc (suc f)) l = absurd (omega arith)
+
+-- a turned edge leads to the same node
+pub turn-node : (f e : ℕ) → turn f e / 2 ≡ e / 2
+unfolding turn
+turn-node zero e = refl
+turn-node (suc f) e = omega arith
+
+-- ... and permits the opposite
+pub turn-under : (w : Words) (f e x : ℕ) → under w (turn f e) x ≡ flip f (under w e x)
+unfolding under flip turn
+turn-under w zero e x = refl
+turn-under w (suc f) e x = go (e % 2) refl
+  where
+    node : (2 * (e / 2) + (1 - e % 2)) / 2 ≡ e / 2
+    node = omega arith
+
+    go : (d : ℕ) → e % 2 ≡ d → flip ((2 * (e / 2) + (1 - e % 2)) % 2) (plain w ((2 * (e / 2) + (1 - e % 2)) / 2) x) ≡ not (flip (e % 2) (plain w (e / 2) x))
+    go zero q = let o : (2 * (e / 2) + (1 - e % 2)) % 2 ≡ 1 = omega arith in rw (node, o, q)
+    go (suc zero) q = let o : (2 * (e / 2) + (1 - e % 2)) % 2 ≡ 0 = omega arith in rw (node, o, q) (sym (Bool·not-not (plain w (e / 2) x)))
+    go (suc (suc d)) q = absurd (omega arith)
