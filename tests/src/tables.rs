@@ -154,7 +154,7 @@ fn possible_records(below: usize) -> usize {
 
 /// A plan with exactly `total` records in `n` consecutive heights of at most `widest` records
 /// each.
-pub fn wide_plan(n: u64, total: usize, widest: usize) -> Plan {
+fn wide_plan(n: u64, total: usize, widest: usize) -> Plan {
     let mut sizes = vec![1; n as usize];
     // From the root down. The four lowest levels come first, so that the others find enough
     // nodes below them.
@@ -278,4 +278,24 @@ pub fn chain(n: u64, only_one: bool, root_flag: u64) -> Vec<u64> {
         });
     }
     words
+}
+
+/// An accepted table with exactly `node_count` records, at most `widest` of a height. (With more
+/// than 65,535 it is accepted but for that number.)
+pub fn wide(rng: &mut Rng, n: u64, node_count: usize, widest: usize) -> Vec<u64> {
+    let words = from_plan(rng, n, &wide_plan(n, node_count, widest), true);
+    assert_eq!(words.len(), node_count + 1);
+    words
+}
+
+/// Some with tens of thousands of records.
+pub fn wide_ones(rng: &mut Rng) -> Vec<Vec<u64>> {
+    [
+        (20, 65_535, 40_000),
+        (30, 65_535, 5_000),
+        (63, 65_535, 2_000),
+        (63, 30_000, 1_000),
+    ]
+    .map(|(n, node_count, widest)| wide(rng, n, node_count, widest))
+    .to_vec()
 }

@@ -233,20 +233,13 @@ fn every_length(comparison: &mut Comparison) {
 }
 
 fn wide(comparison: &mut Comparison) {
-    for (n, node_count, widest) in [
-        (20, 65_535, 40_000),
-        (30, 65_535, 5_000),
-        (63, 65_535, 2_000),
-        (63, 30_000, 1_000),
-    ] {
-        let plan = tables::wide_plan(n, node_count, widest);
-        let words = tables::from_plan(&mut comparison.rng, n, &plan, true);
-        assert_eq!(words.len(), node_count + 1);
+    for words in tables::wide_ones(&mut comparison.rng) {
         let table = bytes_of(&words);
+        let (n, node_count, _) = fields(words[0]);
         let answer = comparison.compare_served(Call::Check, &table);
-        assert_eq!(answer.0, (n << 32) + node_count as u64);
+        assert_eq!(answer.0, (n << 32) + node_count);
         comparison.compare_all(&table);
-        let short = vec![0xFF; 8 * (node_count + 1) - 1];
+        let short = vec![0xFF; table.len() - 1];
         comparison.compare(Call::Count, &table, &short);
 
         // A fault in the last record, after all others have passed; or a record not named.
@@ -260,8 +253,7 @@ fn wide(comparison: &mut Comparison) {
         }
     }
     // One record too many, at the length that fits.
-    let plan = tables::wide_plan(40, 65_536, 5_000);
-    let words = tables::from_plan(&mut comparison.rng, 40, &plan, true);
+    let words = tables::wide(&mut comparison.rng, 40, 65_536, 5_000);
     assert_eq!(words[0], word(40, 65_536, fields(words[0]).2));
     comparison.compare_words(&words);
     for _ in 0..20 {

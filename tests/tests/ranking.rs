@@ -3,7 +3,7 @@
 
 use setupbook_tests::call::{Answer, Call};
 use setupbook_tests::comparison::{random_part, Comparison};
-use setupbook_tests::layout::{bytes_of, fields};
+use setupbook_tests::layout::bytes_of;
 use setupbook_tests::rng::Rng;
 use setupbook_tests::tables::{self, TruthTable};
 
@@ -209,15 +209,7 @@ fn random_parts(comparison: &mut Comparison) {
 }
 
 fn wide(comparison: &mut Comparison) {
-    for (n, node_count, widest) in [
-        (20, 65_535, 40_000),
-        (30, 65_535, 5_000),
-        (63, 65_535, 2_000),
-        (63, 20_000, 1_000),
-    ] {
-        let plan = tables::wide_plan(n, node_count, widest);
-        let words = tables::from_plan(&mut comparison.rng, n, &plan, true);
-        assert_eq!(fields(words[0]).1, node_count as u64);
+    for words in tables::wide_ones(&mut comparison.rng) {
         for table in with_opposite(&words) {
             compare_numbers(comparison, &table, 20);
             compare_parts(comparison, &table, 5);

@@ -1,9 +1,8 @@
 -- Counting the setups that an edge permits, where the places are filled. Assumes nothing.
-use Prim.Native.Nat.{ℕ, _+_, _*_, _/_, _%_, _^_, _≤_}
+use Prim.Native.Nat.{ℕ, _/_, _%_, _^_, _≤_}
 use mathlib.Core.Path.{_≡_, sym, ap, _∙_}
 use mathlib.Core.List.{List}
 use native.Mathlib.Omega.{arith}
-use lib.ListN.{length}
 use Rattle.words.specs.Words.{wordAt}
 use Rattle.words.proofs.Cases.{less, same, more, tri}
 use Rattle.diagram.specs.Format.{Words, height}

@@ -1,6 +1,6 @@
 -- Edges by their flags: what code does at a set flag and at a clear one, and complements. Assumes nothing.
 use Prim.Native.Nat.{ℕ, zero, suc, _+_, _-_, _*_, _/_, _%_, _<_}
-use mathlib.Core.Path.{_≡_, refl, sym, ap, _∙_}
+use mathlib.Core.Path.{_≡_, refl, sym, _∙_}
 use mathlib.Core.Bool.{Bool, true, false, not, Bool·not-not}
 use native.Mathlib.Omega.{arith}
 use lib.Dec.{eqb}

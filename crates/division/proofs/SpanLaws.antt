@@ -31,7 +31,7 @@ sizes-even c k i j = go (ltb i (c - k * (c / k))) (ltb j (c - k * (c / k)))
     go false true = omega arith
     go false false = omega arith
 
--- where part j starts, without the sum
+-- where part j starts, without the sum: for the code only
 pub start-closed : (c k j : ℕ) → start c k j ≡ j * (c / k) + min j (c - k * (c / k))
 unfolding start size indicator
 start-closed c k zero = simp (zero-mul, zero-min)

@@ -1,5 +1,5 @@
 -- The answers of ranking and unranking fit the packed form: places up to 65,535, and values below 2 ^ 63, so no value can be taken for a refusal. Assumes nothing.
-use Prim.Native.Nat.{ℕ, _^_, _≤_, _<_}
+use Prim.Native.Nat.{ℕ, _^_, _<_}
 use mathlib.Core.Path.{_≡_}
 use mathlib.Core.Bool.{Bool, true, false, cond}
 use mathlib.Core.List.{List}

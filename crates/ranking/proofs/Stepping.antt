@@ -5,7 +5,7 @@ use mathlib.Core.List.{List}
 use native.Mathlib.Nat.{zero-add, le-of-lt}
 use native.Mathlib.Omega.{arith}
 use Rattle.words.specs.Words.{wordAt}
-use Rattle.diagram.specs.Format.{Words, height, thenEdge, elseEdge}
+use Rattle.diagram.specs.Format.{Words, height, elseEdge}
 use Rattle.diagram.specs.Meaning.{plain, under}
 use Rattle.diagram.specs.Count.{countBelow}
 use Rattle.diagram.specs.Reading.{IsRecord, Within}
@@ -42,15 +42,14 @@ module _ (t s : List ℕ) (k y h a b : ℕ) (p : 0 < k) (F : Filled t s k) (l : 
     few = omega (arith, r .low);
   }
 
-  -- the settings left are those below the node's own
-  goes : (e c rest : ℕ) → Lower w k e → rest < 2 ^ (h - 1) → countBelow (plain w k) y ≡ c + countBelow (under w e) rest → IsStep w k y e c rest
-  goes e c rest o i q = record { node = o .node; low = o .low; rest-fits = rw (← r .height-is) i; sum = q }
+  goes : (e c rest : ℕ) → Lower w k e → countBelow (plain w k) y ≡ c + countBelow (under w e) rest → IsStep w k y e c rest
+  goes e c rest o q = record { node = o .node; low = o .low; sum = q }
 
   pub step-low : y < 1 * 2 ^ (h - 1) % 18446744073709551616 → IsStep w k y b 0 y
   step-low i =
       let j : y < 2 ^ (h - 1) = rw half at i in
       let q = below-else w (W .settings) (W .nodes) (W .holds .ordered) k y p (W .inside) (rw (← r .height-is) (le-of-lt j)) in
-      goes b 0 y low-node j (rw (r .else-is) (q ∙ sym (zero-add (countBelow (under w (elseEdge w k)) y))))
+      goes b 0 y low-node (rw (r .else-is) (q ∙ sym (zero-add (countBelow (under w (elseEdge w k)) y))))
 
   pub step-high : 1 * 2 ^ (h - 1) % 18446744073709551616 ≤ y → (c : ℕ) → c ≡ countBelow (under w b) (2 ^ (h - 1)) → IsStep w k y a c (y - 1 * 2 ^ (h - 1) % 18446744073709551616)
   step-high i c q =
@@ -59,5 +58,5 @@ module _ (t s : List ℕ) (k y h a b : ℕ) (p : 0 < k) (F : Filled t s k) (l : 
       let v : 2 ^ (h - 1) + (y - 2 ^ (h - 1)) ≡ y = omega arith in
       let o = below-then w (W .settings) (W .nodes) (W .holds .ordered) k (y - 2 ^ (height w k - 1)) p (W .inside) (rw (← r .height-is) (omega arith)) in
       rw half
-      (goes a c (y - 2 ^ (h - 1)) (high-lower t k h a b p W r) (omega arith)
+      (goes a c (y - 2 ^ (h - 1)) (high-lower t k h a b p W r)
       (ap (countBelow (plain w k)) (sym v) ∙ rw (q, r .height-is, r .then-is, r .else-is) o))

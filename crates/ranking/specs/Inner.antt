@@ -1,5 +1,5 @@
 -- What the steps of ranking and unranking know: for inner contracts only. Assumes nothing.
-use Prim.Native.Nat.{ℕ, _+_, _-_, _*_, _/_, _^_, _≤_, _<_}
+use Prim.Native.Nat.{ℕ, _+_, _*_, _/_, _^_, _≤_, _<_}
 use mathlib.Core.Path.{_≡_}
 use Rattle.diagram.specs.Format.{Words, height}
 use Rattle.diagram.specs.Meaning.{plain, under}
@@ -9,7 +9,6 @@ use Rattle.diagram.specs.Count.{countBelow}
 pub record IsStep (w : Words) (k y e passed rest : ℕ) : Type 0 where
   pub node : e / 2 < k
   pub low : height w (e / 2) < height w k
-  pub rest-fits : rest < 2 ^ (height w k - 1)
   pub sum : countBelow (plain w k) y ≡ passed + countBelow (under w e) rest
 
 -- after the first settings of n are chosen as the digits of x, with h settings left: edge e permits the setups that begin so, `left` is the rank asked for less the count of the permitted setups below all those, and is below their count
