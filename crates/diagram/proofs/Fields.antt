@@ -7,7 +7,7 @@ use native.Mathlib.Nat.{add-zero}
 use lib.ListN.{getD}
 use Rattle.words.specs.Words.{beAt, wordAt}
 use Rattle.diagram.specs.Format.{Words, highField, middleField, lowField, settings, nodes, root, height, thenEdge, elseEdge}
-use Rattle.diagram.specs.Reading.{HasFields, IsHeader, IsRecord}
+use Rattle.diagram.specs.Reading.{HasFields, IsHeader, IsRecord, recordOf}
 
 -- the height of a node that is not the sink
 pub height-node : (w : Words) (k : ℕ) → 0 < k → height w k ≡ highField (w k)
@@ -27,6 +27,20 @@ fields-are v l = record {
   low-is = refl;
   high-fits = omega arith;
 }
+
+-- the fields of a word that is made of them
+module _ (h t e : ℕ) (lt : t < 536870912) (le : e < 536870912) where
+  pub record-high : highField (recordOf h t e) ≡ h
+  unfolding recordOf highField
+  record-high = omega arith
+
+  pub record-middle : middleField (recordOf h t e) ≡ t
+  unfolding recordOf middleField
+  record-middle = omega arith
+
+  pub record-low : lowField (recordOf h t e) ≡ e
+  unfolding recordOf lowField
+  record-low = omega arith
 
 -- a header, and a record, is the fields of its word
 pub fields-header : (w : Words) (v n N e : ℕ) → v ≡ w 0 → HasFields v n N e → IsHeader w n N e

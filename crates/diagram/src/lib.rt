@@ -6,7 +6,7 @@ ghost use lib.ListN.{length};
 ghost use Rattle.words.specs.Words.{wordAt};
 ghost use Rattle.diagram.specs.Format.{height};
 ghost use Rattle.diagram.specs.Count.{indicator};
-ghost use Rattle.diagram.specs.Reading.{HasFields, IsHeader, IsRecord, turn};
+ghost use Rattle.diagram.specs.Reading.{HasFields, IsHeader, IsRecord, turn, recordOf};
 
 // A node's number. Node 0 is the sink.
 pub struct Node(pub usize);
@@ -81,6 +81,14 @@ pub struct Record {
 }
 
 impl Record {
+    // The word of these fields.
+    pub fn word(self) -> u64
+        requires { ⌜ (self .height ≤ 63) × (self .high .value < 2 ^ 29) × (self .low .value < 2 ^ 29) ⌝ }
+        ensures { λ r. ⌜ r ≡ recordOf (self .height) (self .high .value) (self .low .value) ⌝ }
+    {
+        self.height * 288230376151711744 + self.high.value * 536870912 + self.low.value
+    }
+
     pub fn of(word: u64) -> Self
         ensures { λ r. ⌜ HasFields word (r .height) (r .high .value) (r .low .value) ⌝ }
     {

@@ -1,0 +1,2 @@
+-- A diagram cut at a bound.
+pub mod Cut

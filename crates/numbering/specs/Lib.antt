@@ -1,0 +1,3 @@
+-- A diagram numbered anew.
+pub mod Renewal
+pub mod Numbered
