@@ -4,7 +4,7 @@ use mathlib.Core.Path.{_≡_}
 use mathlib.Core.Bool.{Bool, not, cond, Bool·beq}
 use mathlib.Core.List.{List}
 use lib.Dec.{eqb, leb}
-use lib.ListN.{getD}
+use lib.ListN.{length, getD}
 use Rattle.diagram.specs.Format.{Words, height}
 use Rattle.diagram.specs.Meaning.{bit}
 use Rattle.diagram.specs.Ordered.{Ordered, Reduced}
@@ -44,3 +44,10 @@ pub record TwiceCut (R : Words) (n N : ℕ) : Type 0 where
   pub table : Reduced R n N
   pub first : (v : ℕ) → N < v → v ≤ N + n → height R v ≡ v - N
   pub second : (v : ℕ) → N + n < v → v ≤ N + n + n → height R v ≡ v - (N + n)
+
+-- there is room for the words of a table of N nodes, and for a map of these and of two cuts
+pub record Room (table map : List ℕ) (n N : ℕ) : Type 0 where
+  pub table-long : 8 * N + 8 ≤ length table
+  pub map-long : 8 * (N + n + n) + 8 ≤ length map
+  pub few-settings : n ≤ 63
+  pub few-nodes : N ≤ 65535

@@ -1,0 +1,1 @@
+// Nodes numbered anew by a map.
