@@ -4,6 +4,7 @@ use mathlib.Core.Path.{_≡_, sym, ap, _∙_}
 use mathlib.Core.Bool.{Bool}
 use mathlib.Core.List.{List}
 use native.Mathlib.Omega.{arith}
+use native.Mathlib.Nat.{le-refl}
 use lib.ListN.{length}
 use Rattle.words.specs.Words.{wordAt, wordsOver}
 use Rattle.words.proofs.Laws.{words-read, length-wordsOver}
@@ -19,27 +20,31 @@ use Rattle.checking.specs.declared.Checked.{Checked}
 use Rattle.checking.specs.declared.Checked.the-variants.{Table}
 use Rattle.checking.specs.declared.Shape.{Shape}
 use Rattle.checking.specs.Answers.{checkedAs}
-use Rattle.checking.specs.Operations.{checking, counting, sheetBy, sheetAfter}
+use Rattle.checking.specs.Operations.{checkingFor, counting, sheetBy, sheetAfterFor}
 use Rattle.counting.specs.Inner.{Filled, Opens}
 use Rattle.counting.proofs.Places.{place-fits}
 
-module _ (t s out : List ℕ) (a : Checked) (is : (checkedAs a ≡ checking t s) × (out ≡ sheetAfter t s)) where
+-- N + 1 places are enough where N + 1 are needed
+pub enough : (N : ℕ) → N + 1 ≤ N + 1
+enough N = le-refl (N + 1)
+
+module _ (need : ℕ → ℕ) (some : (N : ℕ) → N + 1 ≤ need N) (t s out : List ℕ) (a : Checked) (is : (checkedAs a ≡ checkingFor need t s) × (out ≡ sheetAfterFor need t s)) where
   -- a refusal of the check is the operation's
-  pub handed-on : {B : Type 0} (f : ℕ × ℕ → Answer B) (number k : ℕ) → checkedAs a ≡ refusal number k → refusal number k ≡ andThen (checking t s) f
+  pub handed-on : {B : Type 0} (f : ℕ × ℕ → Answer B) (number k : ℕ) → checkedAs a ≡ refusal number k → refusal number k ≡ andThen (checkingFor need t s) f
   unfolding andThen
   handed-on f number k e = sym (ap (λ b. andThen b f) (sym (is .0) ∙ e))
 
   module _ (shape : Shape) (q : a ≡ Table shape) where
-    checking-is : checking t s ≡ value (shape .settings, shape .nodes)
+    checking-is : checkingFor need t s ≡ value (shape .settings, shape .nodes)
     checking-is = sym (is .0) ∙ ap checkedAs q
 
-    pub going-on : {B : Type 0} (f : ℕ × ℕ → Answer B) → andThen (checking t s) f ≡ f (shape .settings, shape .nodes)
+    pub going-on : {B : Type 0} (f : ℕ × ℕ → Answer B) → andThen (checkingFor need t s) f ≡ f (shape .settings, shape .nodes)
     unfolding andThen
     going-on f = ap (λ b. andThen b f) checking-is
 
-    accepted : Accepted t (shape .settings) (shape .nodes) × (shape .nodes + 1 ≤ length s / 8)
-    unfolding checking
-    accepted = check-accepted t (length s / 8) (λ N. N + 1) (shape .settings) (shape .nodes) checking-is
+    accepted : Accepted t (shape .settings) (shape .nodes) × (need (shape .nodes) ≤ length s / 8)
+    unfolding checkingFor
+    accepted = check-accepted t (length s / 8) need (shape .settings) (shape .nodes) checking-is
 
     pub table-long : 8 ≤ length t
     table-long = omega (arith, accepted .0 .long)
@@ -72,10 +77,10 @@ module _ (t s out : List ℕ) (a : Checked) (is : (checkedAs a ≡ checking t s)
       root-within = record { settings = n; nodes = N; holds = table-holds; inside = root-inside }
 
       room : 8 * (N + 1) ≤ length s
-      room = omega (arith, accepted .1, nodes-is)
+      room = omega (arith, accepted .1, some (shape .nodes), nodes-is)
 
       filled : out ≡ wordsOver (place w) (N + 1) s
-      unfolding sheetAfter sheetBy
+      unfolding sheetAfterFor sheetBy
       filled = is .1 ∙ rw (checking-is, h .nodes-is)
 
       -- the places up to the root's hold the counts
@@ -98,11 +103,12 @@ module _ (t s out : List ℕ) (a : Checked) (is : (checkedAs a ≡ checking t s)
       root-opens = record { filled = root-filled; low = height-le-settings w n N (table-holds .ordered) (e / 2) root-inside; few = h .few-settings }
 
       -- an answer by n and the root edge is the operation's
-      pub answered : {B : Type 0} (f : ℕ → (ℕ → Bool) → Answer B) (b : Answer B) → b ≡ f n (under w e) → b ≡ andThen (checking t s) (λ _. f (settings w) (permitted w))
+      pub answered : {B : Type 0} (f : ℕ → (ℕ → Bool) → Answer B) (b : Answer B) → b ≡ f n (under w e) → b ≡ andThen (checkingFor need t s) (λ _. f (settings w) (permitted w))
       unfolding permitted
       answered f b q = q ∙ rw (h .settings-is, h .root-is) (sym (going-on (λ _. f (settings w) (permitted w))))
 
-      -- counting
-      pub counted : (c : ℕ) → c ≡ countBelow (under w e) (2 ^ n) → value c ≡ counting t s
-      unfolding counting total
-      counted c q′ = answered (λ n P. value (countBelow P (2 ^ n))) (value c) (ap value q′)
+-- counting
+pub counted : (t s out : List ℕ) (a : Checked) (is : (checkedAs a ≡ checkingFor (λ N. N + 1) t s) × (out ≡ sheetAfterFor (λ N. N + 1) t s)) (shape : Shape) → a ≡ Table shape
+    → (n N e : ℕ) → IsHeader (wordAt t) n N e → (c : ℕ) → c ≡ countBelow (under (wordAt t) e) (2 ^ n) → value c ≡ counting t s
+unfolding counting total
+counted t s out a is shape q n N e h c c-is = answered (λ N. N + 1) enough t s out a is shape q n N e h (λ n P. value (countBelow P (2 ^ n))) (value c) (ap value c-is)

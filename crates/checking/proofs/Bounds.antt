@@ -14,13 +14,13 @@ use Rattle.diagram.specs.Count.{total}
 use Rattle.diagram.specs.Answer.{value}
 use Rattle.diagram.proofs.Accept.{check-accepted}
 use Rattle.diagram.proofs.Refusals.{Refuses, passes, unless, then-refuses, check-place}
-use Rattle.checking.specs.Operations.{checking, counting, testSetup, testing}
+use Rattle.checking.specs.Operations.{checking, checkingFor, counting, testSetup, testing}
 
 abbrev pub Low : ℕ → ℕ → Type 0
 Low number place = place ≤ 65535
 
 pub checking-place : (t s : List ℕ) → Refuses Low (checking t s)
-unfolding checking
+unfolding checkingFor
 checking-place t s = check-place t (length s / 8) (λ N. N + 1)
 
 pub counting-place : (t s : List ℕ) → Refuses Low (counting t s)
@@ -41,7 +41,7 @@ unfolding settings highField
 settings-fit t f = omega (arith, word-fits t 0 f)
 
 pub shape-fits : (t s : List ℕ) (n N : ℕ) → ((i : ℕ) → getD t i 0 < 256) → value (n, N) ≡ checking t s → (n ≤ 63) × (N ≤ 65535)
-unfolding checking
+unfolding checkingFor
 shape-fits t s n N f e =
     let A = check-accepted t (length s / 8) (λ N. N + 1) n N (sym e) .0 in
     (omega (arith, A .has-settings, settings-fit t f), A .few)

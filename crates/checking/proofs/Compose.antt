@@ -1,8 +1,9 @@
 -- The rules one after the other, and the sheet as they leave it, in the terms of the code. Assumes nothing.
-use Prim.Native.Nat.{ℕ, _+_, _*_, _/_}
+use Prim.Native.Nat.{ℕ, _+_, _*_, _/_, _≤_, _<_}
 use mathlib.Core.Path.{_≡_, sym, ap, _∙_}
 use mathlib.Core.List.{List}
 use native.Mathlib.Omega.{arith}
+use native.Mathlib.Nat.{mul-le-mul-right}
 use lib.ListN.{length}
 use borrow.Author.Tests.{eq-eqb, ne-eqb}
 use Rattle.words.specs.Words.{wordAt, wordsOver}
@@ -18,7 +19,7 @@ use Rattle.rules.specs.declared.Refusal.{Refusal}
 use Rattle.rules.specs.declared.Verdict.{Verdict}
 use Rattle.rules.specs.declared.Verdict.the-variants.{Passed, Refused}
 use Rattle.rules.specs.Refusals.{numberOf, placeOf, verdictAs}
-use Rattle.checking.specs.Operations.{checking, sheetBy, sheetAfter}
+use Rattle.checking.specs.Operations.{checking, checkingFor, sheetBy, sheetAfter, sheetAfterFor}
 
 -- a refusal other than 9 leaves the sheet as it was
 sheet-kept : {A : Type 0} (w : Words) (N : ℕ) (a : Answer A) (number k : ℕ) (s : List ℕ) → (number ≡ 9 → ⊥) → a ≡ refusal number k → s ≡ sheetBy w N a s
@@ -49,41 +50,46 @@ module _ (w : Words) (n N : ℕ) (s : List ℕ) (v : Verdict) (v-is : verdictAs 
     unfolding sheetBy
     names-passed q = (names-last, counted-is ∙ rw q)
 
--- all rules, where N + 1 places are needed: the verdict v on the header, then u on the diagram
-module _ (t s : List ℕ) (v : Verdict) (v-is : verdictAs v ≡ checkHeader t (length s / 8) (λ N. 1 * N + 1)) where
-  header-is : verdictAs v ≡ checkHeader t (length s / 8) (λ N. N + 1)
-  unfolding checkHeader
-  header-is = let e : 1 * nodes (wordAt t) + 1 ≡ nodes (wordAt t) + 1 = omega arith in rw e at v-is
-
-  pub header-refused : (r : Refusal) → v ≡ Refused r → (refusal (numberOf r) (placeOf r) ≡ checking t s) × (s ≡ sheetAfter t s)
-  unfolding checking check andThen sheetAfter
+-- all rules, where `need N` places are needed: the verdict v on the header, then u on the diagram
+module _ (need : ℕ → ℕ) (t s : List ℕ) (v : Verdict) (v-is : verdictAs v ≡ checkHeader t (length s / 8) need) where
+  pub header-refused : (r : Refusal) → v ≡ Refused r → (refusal (numberOf r) (placeOf r) ≡ checkingFor need t s) × (s ≡ sheetAfterFor need t s)
+  unfolding checkingFor check andThen sheetAfterFor
   header-refused r q =
-      let e : checkHeader t (length s / 8) (λ N. N + 1) ≡ refusal (numberOf r) (placeOf r) = sym header-is ∙ ap verdictAs q in
-      let a : checking t s ≡ refusal (numberOf r) (placeOf r) = rw e in (
+      let e : checkHeader t (length s / 8) need ≡ refusal (numberOf r) (placeOf r) = sym v-is ∙ ap verdictAs q in
+      let a : checkingFor need t s ≡ refusal (numberOf r) (placeOf r) = rw e in (
         sym a,
-        sheet-kept (wordAt t) (nodes (wordAt t)) (checking t s) (numberOf r) (placeOf r) s
-            (header-refuses t (length s / 8) (λ N. N + 1) (numberOf r) (placeOf r) e .0) a,
+        sheet-kept (wordAt t) (nodes (wordAt t)) (checkingFor need t s) (numberOf r) (placeOf r) s
+            (header-refuses t (length s / 8) need (numberOf r) (placeOf r) e .0) a,
       )
 
   -- what the header's rules give to those after them
   module _ (passed : v ≡ Passed) where
-    pub header-holds : Headed t (length s / 8) (λ N. N + 1)
-    header-holds = headed t (length s / 8) (λ N. N + 1) (sym header-is ∙ ap verdictAs passed)
+    pub header-holds : Headed t (length s / 8) need
+    header-holds = headed t (length s / 8) need (sym v-is ∙ ap verdictAs passed)
 
     module _ (n N e : ℕ) (h : IsHeader (wordAt t) n N e) (u : Verdict) (u-is : verdictAs u ≡ checkDiagram (wordAt t) n N) (out : List ℕ) (out-is : out ≡ sheetBy (wordAt t) N (verdictAs u) s) where
-      checking-is : checking t s ≡ andThen (verdictAs u) (λ _. value (n, N))
-      unfolding checking check andThen
+      checking-is : checkingFor need t s ≡ andThen (verdictAs u) (λ _. value (n, N))
+      unfolding checkingFor check andThen
       checking-is =
-          rw (sym header-is ∙ ap verdictAs passed, ← h .settings-is, ← h .nodes-is, ← u-is)
+          rw (sym v-is ∙ ap verdictAs passed, ← h .settings-is, ← h .nodes-is, ← u-is)
 
-      pub diagram-refused : (r : Refusal) → u ≡ Refused r → (refusal (numberOf r) (placeOf r) ≡ checking t s) × (out ≡ sheetAfter t s)
-      unfolding andThen sheetAfter sheetBy
+      pub diagram-refused : (r : Refusal) → u ≡ Refused r → (refusal (numberOf r) (placeOf r) ≡ checkingFor need t s) × (out ≡ sheetAfterFor need t s)
+      unfolding andThen sheetAfterFor sheetBy
       diagram-refused r q =
-          let a : checking t s ≡ refusal (numberOf r) (placeOf r) = checking-is ∙ rw q in
+          let a : checkingFor need t s ≡ refusal (numberOf r) (placeOf r) = checking-is ∙ rw q in
           (sym a, out-is ∙ rw (a, q, h .nodes-is))
 
-      pub diagram-passed : u ≡ Passed → (value (n, N) ≡ checking t s) × (out ≡ sheetAfter t s)
-      unfolding andThen sheetAfter sheetBy
+      pub diagram-passed : u ≡ Passed → (value (n, N) ≡ checkingFor need t s) × (out ≡ sheetAfterFor need t s)
+      unfolding andThen sheetAfterFor sheetBy
       diagram-passed q =
-          let a : checking t s ≡ value (n, N) = checking-is ∙ rw q in
+          let a : checkingFor need t s ≡ value (n, N) = checking-is ∙ rw q in
           (sym a, out-is ∙ rw (a, q, h .nodes-is))
+
+-- what is needed is more than the nodes
+pub need-some : (each more N : ℕ) → 0 < each → 0 < more → N + 1 ≤ each * N + more
+need-some each more N p q = omega (arith, mul-le-mul-right N p)
+
+-- N + 1 places, as the code has them
+pub need-one : (t s : List ℕ) → (checkingFor (λ N. 1 * N + 1) t s ≡ checking t s) × (sheetAfterFor (λ N. 1 * N + 1) t s ≡ sheetAfter t s)
+unfolding checkingFor sheetAfterFor check checkHeader
+need-one t s = let e : 1 * nodes (wordAt t) + 1 ≡ nodes (wordAt t) + 1 = omega arith in (rw e, rw e)

@@ -11,9 +11,13 @@ use Rattle.diagram.specs.Count.{place, total}
 use Rattle.diagram.specs.Answer.{Answer, value, refusal, andThen}
 use Rattle.diagram.specs.Rules.{check}
 
--- checking: n and N. A sheet of N + 1 places is needed
-unfoldable pub checking : List ℕ → List ℕ → Answer (ℕ × ℕ)
-checking table sheet = check table (length sheet / 8) (λ N. N + 1)
+-- checking: n and N. A sheet of `need N` places is needed
+unfoldable pub checkingFor : (ℕ → ℕ) → List ℕ → List ℕ → Answer (ℕ × ℕ)
+checkingFor need table sheet = check table (length sheet / 8) need
+
+-- ... of N + 1 places, as for most operations
+abbrev pub checking : List ℕ → List ℕ → Answer (ℕ × ℕ)
+checking table sheet = checkingFor (λ N. N + 1) table sheet
 
 -- counting: C
 unfoldable pub counting : List ℕ → List ℕ → Answer ℕ
@@ -32,6 +36,10 @@ unfoldable pub sheetBy : {A : Type 0} → Words → ℕ → Answer A → List �
 sheetBy w N (value v) sheet = wordsOver (place w) (N + 1) sheet
 sheetBy w N (refusal number at) sheet = cond (eqb number 9) (wordsOver (λ _. 0) (N + 1) sheet) sheet
 
+-- the sheet after the check
+unfoldable pub sheetAfterFor : (ℕ → ℕ) → List ℕ → List ℕ → List ℕ
+sheetAfterFor need table sheet = sheetBy (wordAt table) (nodes (wordAt table)) (checkingFor need table sheet) sheet
+
 -- the sheet after each of these operations
-unfoldable pub sheetAfter : List ℕ → List ℕ → List ℕ
-sheetAfter table sheet = sheetBy (wordAt table) (nodes (wordAt table)) (checking table sheet) sheet
+abbrev pub sheetAfter : List ℕ → List ℕ → List ℕ
+sheetAfter table sheet = sheetAfterFor (λ N. N + 1) table sheet

@@ -3,7 +3,7 @@ mod walk;
 
 pub use walk::permitted_under;
 ghost use mathlib.Core.Path.{_≡_};
-ghost use Prim.Native.Nat.{_+_, _*_, _/_, _≤_};
+ghost use Prim.Native.Nat.{_+_, _*_, _/_, _≤_, _<_};
 ghost use lib.ListN.{length};
 ghost use Rattle.words.specs.Words.{wordAt};
 ghost use Rattle.diagram.specs.Meaning.{under};
@@ -12,7 +12,7 @@ ghost use Rattle.diagram.specs.Rules.{checkDiagram};
 ghost use Rattle.diagram.specs.Reading.{Within};
 ghost use Rattle.rules.specs.Refusals.{numberOf, placeOf, verdictAs};
 ghost use Rattle.checking.specs.Answers.{checkedAs, countedAs, testedAs};
-ghost use Rattle.checking.specs.Operations.{checking, counting, testSetup, testing, sheetBy, sheetAfter};
+ghost use Rattle.checking.specs.Operations.{checking, checkingFor, counting, testSetup, testing, sheetBy, sheetAfter, sheetAfterFor};
 ghost use Rattle.checking.specs.Inner.{IsRefused};
 use diagram::Edge;
 use diagram::Setup;
@@ -58,12 +58,13 @@ fn check_diagram(table: &[u8], sheet: &mut [u8], n: u64, nodes: usize) -> Verdic
     names
 }
 
-// Checks a table: its n and N, or its refusal.
-pub fn check(table: &[u8], sheet: &mut [u8]) -> Checked
-    ensures { λ r. ⌜ (checkedAs r ≡ checking (now (table .entry)) (now (sheet .entry)))
-        × (now (sheet .exit) ≡ sheetAfter (now (table .entry)) (now (sheet .entry))) ⌝ }
+// Checks a table where each × N + more places of the sheet are needed: its n and N, or its refusal.
+pub fn check_for(table: &[u8], sheet: &mut [u8], each: usize, more: usize) -> Checked
+    requires { ⌜ (0 < each) × (each ≤ 64) × (0 < more) × (more ≤ 512) ⌝ }
+    ensures { λ r. ⌜ (checkedAs r ≡ checkingFor (λ N. each * N + more) (now (table .entry)) (now (sheet .entry)))
+        × (now (sheet .exit) ≡ sheetAfterFor (λ N. each * N + more) (now (table .entry)) (now (sheet .entry))) ⌝ }
 {
-    let header = rules::check_header(table, sheet.len() / 8, 1, 1);
+    let header = rules::check_header(table, sheet.len() / 8, each, more);
     if let Verdict::Refused(r) = header {
         return Checked::Refused(r);
     }
@@ -76,6 +77,14 @@ pub fn check(table: &[u8], sheet: &mut [u8]) -> Checked
         settings: h.settings,
         nodes: h.nodes,
     })
+}
+
+// Checks a table: its n and N, or its refusal.
+pub fn check(table: &[u8], sheet: &mut [u8]) -> Checked
+    ensures { λ r. ⌜ (checkedAs r ≡ checking (now (table .entry)) (now (sheet .entry)))
+        × (now (sheet .exit) ≡ sheetAfter (now (table .entry)) (now (sheet .entry))) ⌝ }
+{
+    check_for(table, sheet, 1, 1)
 }
 
 // The refusal that an answer of the check holds. (The other case is required away: no call reaches it.)

@@ -2,7 +2,7 @@
 use Prim.Native.Nat.{ℕ}
 use Rattle.diagram.specs.Answer.{Answer, refusal, pass}
 use Rattle.rules.specs.declared.Refusal.{Refusal}
-use Rattle.rules.specs.declared.Refusal.the-variants.{Length, Nodes, Root, Height, Order, Target, ThenFlag, EqualEdges, Unnamed, Sheet, SetupRange, Unpermitted, RankRange, PartRange}
+use Rattle.rules.specs.declared.Refusal.the-variants.{Length, Nodes, Root, Height, Order, Target, ThenFlag, EqualEdges, Unnamed, Sheet, Out, SetupRange, Unpermitted, RankRange, PartRange, TooManyNodes}
 use Rattle.rules.specs.declared.Verdict.{Verdict}
 use Rattle.rules.specs.declared.Verdict.the-variants.{Passed, Refused}
 
@@ -18,10 +18,12 @@ numberOf (ThenFlag k) = 7
 numberOf (EqualEdges k) = 8
 numberOf (Unnamed k) = 9
 numberOf Sheet = 10
+numberOf Out = 11
 numberOf SetupRange = 12
 numberOf Unpermitted = 13
 numberOf RankRange = 14
 numberOf PartRange = 15
+numberOf TooManyNodes = 16
 
 -- its place: the record for 4 to 9, otherwise 0
 abbrev pub placeOf : Refusal → ℕ
@@ -35,10 +37,12 @@ placeOf (ThenFlag k) = k .0
 placeOf (EqualEdges k) = k .0
 placeOf (Unnamed k) = k .0
 placeOf Sheet = 0
+placeOf Out = 0
 placeOf SetupRange = 0
 placeOf Unpermitted = 0
 placeOf RankRange = 0
 placeOf PartRange = 0
+placeOf TooManyNodes = 0
 
 -- some rules pass, or the first that does not
 abbrev pub verdictAs : Verdict → Answer (Unit {0})

@@ -24,10 +24,12 @@ pub enum Refusal {
     EqualEdges(Node),
     Unnamed(Node),
     Sheet,
+    Out,
     SetupRange,
     Unpermitted,
     RankRange,
     PartRange,
+    TooManyNodes,
 }
 
 // The number of a refusal.
@@ -45,10 +47,12 @@ pub fn number_of(refusal: Refusal) -> u64
         Refusal::EqualEdges(_) => 8,
         Refusal::Unnamed(_) => 9,
         Refusal::Sheet => 10,
+        Refusal::Out => 11,
         Refusal::SetupRange => 12,
         Refusal::Unpermitted => 13,
         Refusal::RankRange => 14,
         Refusal::PartRange => 15,
+        Refusal::TooManyNodes => 16,
     }
 }
 
@@ -67,10 +71,12 @@ pub fn place_of(refusal: Refusal) -> usize
         Refusal::EqualEdges(k) => k.0,
         Refusal::Unnamed(k) => k.0,
         Refusal::Sheet => 0,
+        Refusal::Out => 0,
         Refusal::SetupRange => 0,
         Refusal::Unpermitted => 0,
         Refusal::RankRange => 0,
         Refusal::PartRange => 0,
+        Refusal::TooManyNodes => 0,
     }
 }
 

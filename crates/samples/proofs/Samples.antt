@@ -23,10 +23,10 @@ full-total =
     total-root (wordAt full) 63 0 D (lit≤ tt) refl
 
 full-count : counting full (sheet 1) ≡ value 9223372036854775808
-unfolding full table sheet counting checking settings nodes root wordAt beAt bytesOf highField middleField lowField check checkHeader checkDiagram checkRecords checkNames each andThen
+unfolding full table sheet counting checkingFor settings nodes root wordAt beAt bytesOf highField middleField lowField check checkHeader checkDiagram checkRecords checkNames each andThen
 full-count = ap value full-total
 
 pub samples-hold : All samples
-unfolding table A A′ full single empty members setups sheet parts All samples beAt wordAt bytesOf highField middleField lowField settings nodes root height thenEdge elseEdge bit branch flip holds plain under permitted indicator countBelow select someBelow place total andThen each misled checkRecord names named checkNamed checkHeader checkRecords checkNames checkDiagram check checking counting testSetup rankSetup ranking orTooHigh unrankSetup unranking size start noPart spanOf spanning
+unfolding table A A′ full single empty members setups sheet parts All samples beAt wordAt bytesOf highField middleField lowField settings nodes root height thenEdge elseEdge bit branch flip holds plain under permitted indicator countBelow select someBelow place total andThen each misled checkRecord names named checkNamed checkHeader checkRecords checkNames checkDiagram check checkingFor counting testSetup rankSetup ranking orTooHigh unrankSetup unranking size start noPart spanOf spanning
 samples-hold =
     (refl, (refl, (refl, (refl, (refl, (refl, (refl, (refl, (refl, (refl, (refl, (refl, (refl, (full-count, (refl, (refl, (refl, (refl, tt))))))))))))))))))

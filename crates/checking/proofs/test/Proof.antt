@@ -2,7 +2,7 @@
 use mathlib.Core.Path.{sym, subst}
 use borrow.Author.Needs.{needs}
 use Rattle.checking.specs.Inner.{IsRefused}
-use Rattle.checking.proofs.Accepting.{handed-on, table-long, root-within, answered}
+use Rattle.checking.proofs.Accepting.{enough, handed-on, table-long, root-within, answered}
 use Rattle.checking.specs.Operations.{testSetup, testing}
 use Rattle.checking.proofs.test.Statement.{statement}
 use Rattle.checking.proofs.test.Tie as tie
@@ -14,22 +14,22 @@ returns : tie.Need-returns
 unfolding testing
 returns c =
     let a = c .before .before .before .before .before in
-    (handed-on _ _ _ (a .check .result) (a .check .ensures) _ _ _ (c .refusal-of .ensures), a .check .ensures .1)
+    (handed-on _ enough _ _ _ (a .check .result) (a .check .ensures) _ _ _ (c .refusal-of .ensures), a .check .ensures .1)
 
 header-of-requires : tie.Need-header-of-requires
-header-of-requires c κs = table-long _ _ _ _ (c .before .before .before .before .check .ensures) _ (c .enum-told .given .1)
+header-of-requires c κs = table-long _ enough _ _ _ _ (c .before .before .before .before .check .ensures) _ (c .enum-told .given .1)
 
 test-setup-requires : tie.Need-test-setup-requires
 test-setup-requires c κs =
     let h = c .header-of .ensures in
-    (root-within _ _ _ _ (c .before .before .before .before .before .check .ensures) _ (c .before .enum-told .given .1) _ _ _ h, h .few-settings)
+    (root-within _ enough _ _ _ _ (c .before .before .before .before .before .check .ensures) _ (c .before .enum-told .given .1) _ _ _ h, h .few-settings)
 
 returns-2 : tie.Need-returns-2
 unfolding testing
 returns-2 c =
     let a = c .before in
     let is = a .before .before .before .before .before .check .ensures in
-    (answered _ _ _ _ is _ (a .before .enum-told .given .1) _ _ _ (a .header-of .ensures) (testSetup _) _ (c .test-setup .ensures), is .1)
+    (answered _ enough _ _ _ _ is _ (a .before .enum-told .given .1) _ _ _ (a .header-of .ensures) (testSetup _) _ (c .test-setup .ensures), is .1)
 
 pub test-spec : {M : Type 1} → statement M
 test-spec =

@@ -12,7 +12,7 @@ number-of-spec =
     (tie.spec
     (λ c. search needs) (λ c. search needs) (λ c. search needs) (λ c. search needs) (λ c. search needs) (λ c. search needs)
     (λ c. search needs) (λ c. search needs) (λ c. search needs) (λ c. search needs) (λ c. search needs) (λ c. search needs)
-    (λ c. search needs) (λ c. search needs)
+    (λ c. search needs) (λ c. search needs) (λ c. search needs) (λ c. search needs)
     (λ c. (sym (ap numberOf (c .enum-told .given .1)), lit< tt))
     (λ c. (sym (ap numberOf (c .enum-told2 .given .1)), lit< tt))
     (λ c. (sym (ap numberOf (c .enum-told3 .given .1)), lit< tt))
@@ -26,4 +26,6 @@ number-of-spec =
     (λ c. (sym (ap numberOf (c .enum-told11 .given .1)), lit< tt))
     (λ c. (sym (ap numberOf (c .enum-told12 .given .1)), lit< tt))
     (λ c. (sym (ap numberOf (c .enum-told13 .given .1)), lit< tt))
-    (λ c. (sym (ap numberOf (c .enum-told14 .given .1)), lit< tt)))
+    (λ c. (sym (ap numberOf (c .enum-told14 .given .1)), lit< tt))
+    (λ c. (sym (ap numberOf (c .enum-told15 .given .1)), lit< tt))
+    (λ c. (sym (ap numberOf (c .enum-told16 .given .1)), lit< tt)))

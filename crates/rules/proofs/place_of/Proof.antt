@@ -11,7 +11,7 @@ place-of-spec =
     (tie.spec
     (λ c. search needs) (λ c. search needs) (λ c. search needs) (λ c. search needs) (λ c. search needs) (λ c. search needs)
     (λ c. search needs) (λ c. search needs) (λ c. search needs) (λ c. search needs) (λ c. search needs) (λ c. search needs)
-    (λ c. search needs) (λ c. search needs)
+    (λ c. search needs) (λ c. search needs) (λ c. search needs) (λ c. search needs)
     (λ c. sym (ap placeOf (c .enum-told .given .1)))
     (λ c. sym (ap placeOf (c .enum-told2 .given .1)))
     (λ c. sym (ap placeOf (c .enum-told3 .given .1)))
@@ -25,4 +25,6 @@ place-of-spec =
     (λ c. sym (ap placeOf (c .enum-told5 .given .1)))
     (λ c. sym (ap placeOf (c .enum-told6 .given .1)))
     (λ c. sym (ap placeOf (c .enum-told7 .given .1)))
-    (λ c. sym (ap placeOf (c .enum-told8 .given .1))))
+    (λ c. sym (ap placeOf (c .enum-told8 .given .1)))
+    (λ c. sym (ap placeOf (c .enum-told9 .given .1)))
+    (λ c. sym (ap placeOf (c .enum-told10 .given .1))))
