@@ -33,7 +33,7 @@ fn no_part(k: u64, j: u64) -> bool
 }
 
 // Rule 15, and part j of k, of c setups.
-fn span_of(k: u64, j: u64, c: u64) -> Spanned
+pub fn span_of(k: u64, j: u64, c: u64) -> Spanned
     ensures { λ r. ⌜ spannedAs r ≡ spanOf k j c ⌝ }
 {
     if no_part(k, j) {
