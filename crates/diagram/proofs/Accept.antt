@@ -186,9 +186,10 @@ module _ (w : Words) (n N : ℕ) (A : Proper w n N) where
   unfolding checkRecords
   records-pass = all-each (λ k. checkRecord w n (suc k)) N keeps
 
-pub accepted-check : (bytes : List ℕ) (lent : ℕ) (need : ℕ → ℕ) (n N : ℕ) → Accepted bytes n N → need N ≤ lent → check bytes lent need ≡ value (n, N)
+-- an accepted table is refused by 10 alone, where too few places are lent
+pub accepted-lent : (bytes : List ℕ) (lent : ℕ) (need : ℕ → ℕ) (n N : ℕ) → Accepted bytes n N → check bytes lent need ≡ cond (ltb lent (need N)) (refusal 10 0) (value (n, N))
 unfolding check checkHeader checkDiagram andThen
-accepted-check bytes lent need n N A l =
+accepted-lent bytes lent need n N A =
     let w = wordAt bytes in
     let a = A .long in
     let b = A .has-nodes in
@@ -198,12 +199,19 @@ accepted-check bytes lent need n N A l =
       le-ltb 65535 (nodes w) (omega arith),
       eq-eqb (length bytes) (8 * (nodes w + 1)) (omega arith),
       eq-eqb (root w / 2) (nodes w) (A .root-node ∙ sym b),
-      le-ltb lent (need (nodes w)) (subst (λ (m : ℕ). need m ≤ lent) (sym b) l),
       b,
       A .has-settings,
       records-pass w n N (A .proper),
       names-pass w n N (A .proper),
     )
+    (go (ltb lent (need N)))
+  where
+    go : (b : Bool) → andThen {B = ℕ × ℕ} (cond b (refusal 10 0) pass) (λ _. value (n, N)) ≡ cond b (refusal 10 0) (value (n, N))
+    go true = refl
+    go false = refl
+
+pub accepted-check : (bytes : List ℕ) (lent : ℕ) (need : ℕ → ℕ) (n N : ℕ) → Accepted bytes n N → need N ≤ lent → check bytes lent need ≡ value (n, N)
+accepted-check bytes lent need n N A l = accepted-lent bytes lent need n N A ∙ rw (le-ltb lent (need N) l)
 
 -- acceptance is a matter of the bytes alone, and is the rules field by field
 pub accepts-accepted : (bytes : List ℕ) (n N : ℕ) → Accepts bytes n N → Accepted bytes n N

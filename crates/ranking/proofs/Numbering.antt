@@ -47,7 +47,7 @@ module _ (n : ℕ) (P : ℕ → Bool) (x r : ℕ) where
       go none p q = absurd (refused-not q)
       go (some y) p q = select-some P (2 ^ n) r x (p ∙ ap some (value-inj q))
 
-  selects-unrank : Selected P (2 ^ n) r x → unrankSetup r n P ≡ value x
+  pub selects-unrank : Selected P (2 ^ n) r x → unrankSetup r n P ≡ value x
   unfolding unrankSetup orTooHigh
   selects-unrank s = rw (select-of P (2 ^ n) r x s)
 
