@@ -49,6 +49,10 @@ unfoldable pub turn : ℕ → ℕ → ℕ
 turn zero e = e
 turn (suc f) e = 2 * (e / 2) + (1 - e % 2)
 
+-- a word of its three fields
+unfoldable pub recordOf : ℕ → ℕ → ℕ → ℕ
+recordOf h t e = h * 2 ^ 58 + t * 2 ^ 29 + e
+
 -- edge e as it goes on where the setting of height h is on or off (a cofactor): the node's own edge of that side, or e itself if the node lies lower
 unfoldable pub cofactor : Words → ℕ → Bool → ℕ → ℕ
 cofactor w h on e = cond (ltb (height w (e / 2)) h) e (turn (e % 2) (cond on (thenEdge w (e / 2)) (elseEdge w (e / 2))))
