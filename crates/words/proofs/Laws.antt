@@ -29,7 +29,7 @@ unfolding putWord bytesOf
 put-stores l k v h = simp (towards-suc, div-one) (simp (towards-suc, div-one) at (sets-eq (bytesOf 8 v) l (8 * k) h))
 
 -- a word of bytes fits 64 bits
-be-fits : (l : List ℕ) → ((i : ℕ) → getD l i 0 < 256) → (at m : ℕ) → beAt l at m < 256 ^ m
+pub be-fits : (l : List ℕ) → ((i : ℕ) → getD l i 0 < 256) → (at m : ℕ) → beAt l at m < 256 ^ m
 unfolding beAt
 be-fits l f at zero = lit< tt
 be-fits l f at (suc m) = rw (pow-suc 256 m) (omega (arith, be-fits l f at m, f (at + m)))
@@ -38,7 +38,7 @@ pub word-fits : (l : List ℕ) (k : ℕ) → ((i : ℕ) → getD l i 0 < 256) �
 unfolding wordAt
 word-fits l k f = be-fits l f (8 * k) 8
 
-length-bytesOf : (m v : ℕ) → length (bytesOf m v) ≡ m
+pub length-bytesOf : (m v : ℕ) → length (bytesOf m v) ≡ m
 unfolding bytesOf
 length-bytesOf zero v = refl
 length-bytesOf (suc m) v = ap suc (length-bytesOf m v)
@@ -50,7 +50,7 @@ getD-bytesOf (suc m) v zero l = let e : suc m - 1 ≡ m = omega arith in rw e
 getD-bytesOf (suc m) v (suc i) l = let e : suc m - suc (suc i) ≡ m - suc i = omega arith in rw e (getD-bytesOf m v i (omega arith))
 
 -- the first i of the m bytes of v, read back
-be-bytesOf : (p q : List ℕ) (m v i : ℕ) → i ≤ m → beAt (p ++ (bytesOf m v ++ q)) (length p) i ≡ v / 256 ^ (m - i) % 256 ^ i
+pub be-bytesOf : (p q : List ℕ) (m v i : ℕ) → i ≤ m → beAt (p ++ (bytesOf m v ++ q)) (length p) i ≡ v / 256 ^ (m - i) % 256 ^ i
 unfolding beAt
 be-bytesOf p q m v zero l = sym (mod-one (v / 256 ^ (m - 0)))
 be-bytesOf p q m v (suc i) l =
@@ -69,7 +69,7 @@ unfolding wordAt
 word-in p q k v e l =
     subst (λ (n : ℕ). beAt (p ++ (bytesOf 8 v ++ q)) n 8 ≡ v) e (be-bytesOf p q 8 v 8 (omega arith) ∙ ap (λ (n : ℕ). n % 256 ^ 8) (div-one v) ∙ mod-eq-of-lt l)
 
-length-wordsBytes : (f : ℕ → ℕ) (m : ℕ) → length (wordsBytes f m) ≡ 8 * m
+pub length-wordsBytes : (f : ℕ → ℕ) (m : ℕ) → length (wordsBytes f m) ≡ 8 * m
 unfolding wordsBytes
 length-wordsBytes f zero = refl
 length-wordsBytes f (suc m) = length-append (wordsBytes f m) (bytesOf 8 (f m)) ∙ omega (arith, length-wordsBytes f m, length-bytesOf 8 (f m))
@@ -106,7 +106,7 @@ put-next f m s l =
     ap₂ (λ (x y : List ℕ). x ++ bytesOf 8 (f m) ++ y) (take-at p (drop (8 * m) s) (8 * m) a) e
 
 -- the words of a run read back
-words-at : (f : ℕ → ℕ) (m : ℕ) (q : List ℕ) (k : ℕ) → k < m → f k < 2 ^ 64 → wordAt (wordsBytes f m ++ q) k ≡ f k
+pub words-at : (f : ℕ → ℕ) (m : ℕ) (q : List ℕ) (k : ℕ) → k < m → f k < 2 ^ 64 → wordAt (wordsBytes f m ++ q) k ≡ f k
 unfolding wordsBytes
 words-at f zero q k l b = absurd (omega arith)
 words-at f (suc m) q k l b =

@@ -1,3 +1,4 @@
--- Case distinctions, and the laws of words in bytes.
+-- Case distinctions, and the laws of words and of bytes.
 pub mod Cases
 pub mod Laws
+pub mod Bytes

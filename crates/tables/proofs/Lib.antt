@@ -1,0 +1,5 @@
+-- The laws of the table of a set, and of writing it.
+pub mod TableFor
+pub mod TableLaws
+pub mod Agree
+pub mod WritingLaws

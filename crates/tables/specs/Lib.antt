@@ -1,0 +1,3 @@
+-- The table of a set of setups, and how it is written.
+pub mod Table
+pub mod Writing

@@ -1,0 +1,15 @@
+// The table of a set of setups, and a written table handed out.
+ghost use mathlib.Core.Path.{_≡_};
+ghost use Rattle.tables.specs.Writing.{frontOf};
+
+// The front of the out memory: its first bytes, as many as asked for, or none if it has fewer.
+pub fn front(out: &mut [u8], bytes: usize) -> &mut [u8]
+    ensures { λ r. ⌜ now r ≡ frontOf bytes (now (out .entry)) ⌝ }
+{
+    let room = out.len();
+    if bytes <= room {
+        &mut out[..bytes]
+    } else {
+        &mut out[..0]
+    }
+}
