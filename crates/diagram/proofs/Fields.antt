@@ -61,20 +61,6 @@ fields-record w k v h t e p q f = record {
   low = f .high-fits;
 }
 
--- the fields of a word that is made of three
-module _ (h t e : ℕ) (then-fits : t < 536870912) (else-fits : e < 536870912) where
-  pub record-high : highField (recordOf h t e) ≡ h
-  unfolding recordOf highField
-  record-high = omega arith
-
-  pub record-middle : middleField (recordOf h t e) ≡ t
-  unfolding recordOf middleField
-  record-middle = omega arith
-
-  pub record-low : lowField (recordOf h t e) ≡ e
-  unfolding recordOf lowField
-  record-low = omega arith
-
 -- the top six bits of a word are those of its first byte
 top-byte : (a r : ℕ) → r < 72057594037927936 → (a * 72057594037927936 + r) / 288230376151711744 ≡ a / 4
 top-byte a r l = omega arith

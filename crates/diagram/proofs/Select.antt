@@ -8,7 +8,7 @@ use lib.Dec.{eqb}
 use borrow.Author.Tests.{eqb-true, eqb-false}
 use Rattle.words.proofs.Cases.{Tri, less, same, more, tri}
 use Rattle.diagram.specs.Count.{indicator, countBelow, select}
-use Rattle.diagram.proofs.CountLaws.{count-mono-lt}
+use Rattle.diagram.proofs.CountLaws.{count-cong, count-mono-lt}
 
 -- what a selected number is
 pub record Selected (P : ℕ → Bool) (m r x : ℕ) : Type 0 where
@@ -77,3 +77,9 @@ select-none P m r l = go (select P m r) refl
     go (some x) e =
         let s = select-some P m r x e in
         absurd (omega (arith, s .rank, count-mono-lt P (s .passes) (s .below)))
+
+-- tests that agree select the same
+pub selected-cong : (P Q : ℕ → Bool) (m r x : ℕ) → ((y : ℕ) → y < m → P y ≡ Q y) → Selected P m r x → Selected Q m r x
+selected-cong P Q m r x h s =
+    let l = s .below in
+    record { below = l; passes = sym (h x l) ∙ s .passes; rank = sym (count-cong P Q x (λ y q. h y (omega arith))) ∙ s .rank }

@@ -1,0 +1,3 @@
+-- The laws of written parts.
+pub mod Promised
+pub mod Dividing

@@ -1,0 +1,87 @@
+-- What a call that keeps part-write's promise comes to, on an accepted table. Assumes nothing.
+use Prim.Native.Nat.{ℕ, _/_, _≤_, _<_}
+use mathlib.Core.Path.{_≡_, refl, sym, ap, ap₂, _∙_}
+use mathlib.Core.Bool.{Bool, true, false, cond}
+use mathlib.Core.List.{List}
+use mathlib.Core.Option.{Option, none, some}
+use native.Mathlib.Omega.{arith}
+use lib.Dec.{leb, ltb}
+use lib.ListN.{length}
+use borrow.Author.Tests.{leb-false}
+use Rattle.words.specs.Words.{wordAt}
+use Rattle.words.proofs.Cases.{passed}
+use Rattle.diagram.specs.Meaning.{permitted}
+use Rattle.diagram.specs.Answer.{Answer, value, refusal, andThen}
+use Rattle.diagram.specs.Rules.{Accepts}
+use Rattle.diagram.specs.Ordered.{Accepted}
+use Rattle.diagram.proofs.AnswerLaws.{refused-not, value-inj}
+use Rattle.diagram.proofs.Accept.{accepts-accepted, accepted-lent}
+use Rattle.checking.specs.Operations.{checkingFor}
+use Rattle.division.specs.Span.{inPart}
+use Rattle.division.proofs.Sharing.{none-index}
+use Rattle.tables.specs.Table.{tableOf}
+use Rattle.tables.specs.Writing.{fitted, lengthOf, outAfter, frontOf}
+use Rattle.tables.proofs.WritingLaws.{front-written}
+use Rattle.parts.specs.Operations.{needed, partOf, partWriting}
+use Rattle.parts.specs.Calls.{Call, Kept}
+use Rattle.parts.specs.Division.{due}
+
+-- an answer in bytes, taken apart
+answer-value : (a : Answer (List ℕ)) (m : ℕ) → lengthOf a ≡ value m → (bytes : List ℕ) × (a ≡ value bytes) × (length bytes ≡ m)
+unfolding lengthOf
+answer-value (value b) m e = (b, refl, value-inj e)
+answer-value (refusal r p) m e = absurd (refused-not e)
+
+answer-refusal : (a : Answer (List ℕ)) (number place : ℕ) → lengthOf a ≡ refusal number place → a ≡ refusal number place
+unfolding lengthOf
+answer-refusal (value b) number place e = absurd (refused-not (sym e))
+answer-refusal (refusal r p) number place e = let i : r ≡ number = cc in let j : p ≡ place = cc in rw (i, j)
+
+-- what is fitted into the room is what there was
+fitted-some : (room : ℕ) (o : Option (List ℕ)) (bytes : List ℕ) → fitted room o ≡ value bytes → o ≡ some bytes
+unfolding fitted
+fitted-some room none bytes e = absurd (refused-not e)
+fitted-some room (some b) bytes e = ap some (value-inj (passed (ltb room (length b)) refused-not e .1))
+
+module _ (table : List ℕ) (n N k : ℕ) (ok : Accepts table n N) (parts : 0 < k) (few : k ≤ 65535) where
+  A : Accepted table n N
+  A = accepts-accepted table n N ok
+
+  -- part-write answers what is due
+  due-is : (c : Call) → partWriting table k (c .index) (c .sheet) (length (c .out)) ≡ due table n N k c
+  unfolding partWriting checkingFor partOf due andThen
+  due-is c =
+      rw (accepted-lent table (length (c .sheet) / 8) needed n N A, ← (none-index k (c .index) (λ e. omega arith) few), A .has-settings)
+      (go (ltb (length (c .sheet) / 8) (needed N)) _)
+    where
+      go : (b : Bool) (x : Answer (List ℕ)) → andThen {A = ℕ × ℕ} (cond b (refusal 10 0) (value (n, N))) (λ _. x) ≡ cond b (refusal 10 0) x
+      go true x = refl
+      go false x = refl
+
+  module _ (c : Call) (K : Kept table k c) where
+    answer-is : c .answer ≡ lengthOf (due table n N k c)
+    answer-is = K .answers ∙ ap lengthOf (due-is c)
+
+    -- refused just where that is due
+    pub refused-due : (number place : ℕ) → c .answer ≡ refusal number place → due table n N k c ≡ refusal number place
+    refused-due number place e = answer-refusal (due table n N k c) number place (sym answer-is ∙ e)
+
+    pub due-refused : (number place : ℕ) → due table n N k c ≡ refusal number place → c .answer ≡ refusal number place
+    unfolding lengthOf
+    due-refused number place e = answer-is ∙ ap lengthOf e
+
+    -- an answer in bytes: the front of that many is what was due
+    front-due : (m : ℕ) → c .answer ≡ value m → due table n N k c ≡ value (frontOf m (c .out-after))
+    front-due m e =
+        let a = answer-value (due table n N k c) m (sym answer-is ∙ e) in
+        let o : c .out-after ≡ outAfter (value (a .0)) (c .out) = K .writes ∙ ap (λ b. outAfter b (c .out)) (due-is c ∙ a .1) in
+        a .1 ∙ ap value (sym (ap₂ frontOf (sym (a .2)) o ∙ front-written (a .0) (c .out)))
+
+    -- so it is the table of the part
+    pub front-table : (m : ℕ) → c .answer ≡ value m
+        → (c .index < k) × (tableOf n (inPart k (c .index) n (permitted (wordAt table))) ≡ some (frontOf m (c .out-after)))
+    unfolding due
+    front-table m e =
+        let a = passed (ltb (length (c .sheet) / 8) (needed N)) refused-not (front-due m e) in
+        let b = passed (leb k (c .index)) refused-not (a .1) in
+        (leb-false k (c .index) (b .0), fitted-some (length (c .out)) _ (frontOf m (c .out-after)) (b .1))

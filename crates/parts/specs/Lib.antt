@@ -1,0 +1,4 @@
+-- Writing the parts of a division.
+pub mod Operations
+pub mod Calls
+pub mod Division
