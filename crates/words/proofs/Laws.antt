@@ -38,7 +38,7 @@ pub word-fits : (l : List ℕ) (k : ℕ) → ((i : ℕ) → getD l i 0 < 256) �
 unfolding wordAt
 word-fits l k f = be-fits l f (8 * k) 8
 
-length-bytesOf : (m v : ℕ) → length (bytesOf m v) ≡ m
+pub length-bytesOf : (m v : ℕ) → length (bytesOf m v) ≡ m
 unfolding bytesOf
 length-bytesOf zero v = refl
 length-bytesOf (suc m) v = ap suc (length-bytesOf m v)
@@ -64,7 +64,7 @@ be-bytesOf p q m v (suc i) l =
     omega arith
 
 -- a word between other bytes
-word-in : (p q : List ℕ) (k v : ℕ) → length p ≡ 8 * k → v < 2 ^ 64 → wordAt (p ++ (bytesOf 8 v ++ q)) k ≡ v
+pub word-in : (p q : List ℕ) (k v : ℕ) → length p ≡ 8 * k → v < 2 ^ 64 → wordAt (p ++ (bytesOf 8 v ++ q)) k ≡ v
 unfolding wordAt
 word-in p q k v e l =
     subst (λ (n : ℕ). beAt (p ++ (bytesOf 8 v ++ q)) n 8 ≡ v) e (be-bytesOf p q 8 v 8 (omega arith) ∙ ap (λ (n : ℕ). n % 256 ^ 8) (div-one v) ∙ mod-eq-of-lt l)

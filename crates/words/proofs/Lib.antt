@@ -1,3 +1,4 @@
 -- Case distinctions, and the laws of words in bytes.
 pub mod Cases
 pub mod Laws
+pub mod Stores
