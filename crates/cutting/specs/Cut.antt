@@ -33,6 +33,11 @@ cutRecord w B n bound side r h =
     cond (bit h bound) (recordOf h (cutEdge w B n bound r (h - 1)) (cutOther w n bound side r h))
     (recordOf h (cutOther w n bound side r h) (cutEdge w B n bound r (h - 1)))
 
+-- a step of a cut at height h, where the bound leads to edge p: the node's word, and the edge by which the bound goes on
+pub record IsStep (w : Words) (B bound : ℕ) (side : Bool) (h p word next : ℕ) : Type 0 where
+  pub word-is : word ≡ cutRecord w B h bound side p h
+  pub next-is : next ≡ cofactor w h (bit h bound) p
+
 -- w′ is w with the nodes of a cut
 pub record Cut (w : Words) (n B bound r : ℕ) (side : Bool) (w′ : Words) : Type 0 where
   pub as-before : (k : ℕ) → k ≤ B → w′ k ≡ w k

@@ -6,22 +6,14 @@ use mathlib.Core.Logic.{inl, inr}
 use native.Mathlib.Nat.{le-refl, le-antisymm, mod-lt}
 use native.Mathlib.Omega.{arith}
 use lib.Pow.{pow-pos}
-use Rattle.diagram.specs.Format.{Words, height, thenEdge, elseEdge}
-use Rattle.diagram.specs.Meaning.{branch, flip, holds, plain, under}
+use Rattle.diagram.specs.Format.{Words, height}
+use Rattle.diagram.specs.Meaning.{flip, holds, plain, under}
 use Rattle.diagram.specs.Ordered.{Reduced, Named, Proper}
-use Rattle.diagram.proofs.Paths.{side, side-node, branch-node, height-le-settings}
+use Rattle.diagram.proofs.Paths.{side, side-node, height-le-settings}
+use Rattle.diagram.proofs.Agree.{agree-holds}
 use Rattle.diagram.proofs.Local.{under-mod}
 use Rattle.diagram.proofs.Unique.{same-flag, same-node, node-unique, not-taller, same-side, ascending, record-fields, unique}
 use Rattle.words.proofs.Cases.{Tri, less, same, more, tri}
-
--- records that agree give nodes that mean the same
-pub agree : (w w′ : Words) (n N : ℕ) (D : Reduced w n N) (m : ℕ) → m ≤ N → ((k : ℕ) → k < m → w (suc k) ≡ w′ (suc k)) → (d k x : ℕ) → k ≤ m → holds w d k x ≡ holds w′ d k x
-unfolding holds branch height thenEdge elseEdge
-agree w w′ n N D m l a zero k x q = refl
-agree w w′ n N D m l a (suc d) zero x q = refl
-agree w w′ n N D m l a (suc d) (suc k) x q =
-    let s = branch-node w n N (D .ordered) k x (omega arith) in
-    rw (← (a k q)) (ap (flip (branch w (suc k) x % 2)) (agree w w′ n N D m l a d (branch w (suc k) x / 2) x (omega arith)))
 
 -- nodes that mean the same have one height
 same-height : (w w′ : Words) (n N N′ : ℕ) (D : Reduced w n N) (D′ : Reduced w′ n N′) (k b : ℕ) → k ≤ N → b ≤ N′
@@ -88,7 +80,7 @@ module _ (w w′ : Words) (n N N′ : ℕ) (D : Reduced w n N) (D′ : Reduced w
   next m l l′ a = let t = twin w w′ n N N′ D D′ M top N (suc m) (omega arith) l in go (t .node) (t .inside) (t .means)
     where
       lower : (k x : ℕ) → k ≤ m → plain w k x ≡ plain w′ k x
-      lower k x q = agree w w′ n N D m (omega arith) a k k x q
+      lower k x q = agree-holds w w′ n N (D .ordered) m (omega arith) a k k x q
 
       -- an edge of the one that leads to an agreed node is the edge of the other that means the same
       edge : (e e′ : ℕ) → e / 2 ≤ m → e′ / 2 ≤ N′ → ((x : ℕ) → under w e x ≡ under w′ e′ x) → e ≡ e′

@@ -3,6 +3,7 @@ pub mod CountLaws
 pub mod Bits
 pub mod Select
 pub mod Paths
+pub mod Agree
 pub mod Local
 pub mod Counts
 pub mod Edges

@@ -1,5 +1,4 @@
 -- The laws of the table of a set, and of writing it.
 pub mod TableFor
 pub mod TableLaws
-pub mod Agree
 pub mod WritingLaws

@@ -5,6 +5,7 @@ use mathlib.Core.Bool.{Bool, false}
 use mathlib.Core.List.{List, _++_}
 use mathlib.Core.Option.{some}
 use native.Mathlib.Omega.{arith}
+use native.Mathlib.Nat.{le-refl}
 use lib.ListN.{length, drop, length-append}
 use lib.Seq.{take-append-seam}
 use borrow.Author.Tests.{lt-ltb, le-ltb, le-leb}
@@ -18,12 +19,12 @@ use Rattle.diagram.specs.Ordered.{Proper, Accepted}
 use Rattle.diagram.specs.Reading.{recordOf}
 use Rattle.diagram.proofs.Paths.{under-never}
 use Rattle.diagram.proofs.Accept.{accepted-accepts}
+use Rattle.diagram.proofs.Agree.{agree-under, proper-agree}
 use Rattle.diagram.proofs.Fields.{record-high, record-middle, record-low}
 use Rattle.tables.specs.Table.{tableOf}
 use Rattle.tables.specs.Writing.{fitted, outAfter, frontOf}
 use Rattle.tables.proofs.TableFor.{TableFor}
 use Rattle.tables.proofs.TableLaws.{tableOf-is, tableOf-none}
-use Rattle.tables.proofs.Agree.{proper-agree, under-same}
 
 -- a proper diagram of the set, of c nodes, with root edge `top`
 module _ (n : ℕ) (P : ℕ → Bool) (L : Words) (c top : ℕ) (proper : Proper L n c) (root-node : top / 2 ≡ c) (means : (x : ℕ) → x < 2 ^ n → under L top x ≡ P x) where
@@ -52,7 +53,7 @@ module _ (n : ℕ) (P : ℕ → Bool) (L : Words) (c top : ℕ) (proper : Proper
         has-settings = ap highField header ∙ record-high n c top (omega arith) top-fits;
         has-nodes = ap middleField header ∙ record-middle n c top (omega arith) top-fits;
         root-node = ap (λ (e : ℕ). e / 2) has-root ∙ root-node;
-        proper = proper-agree L (wordAt out) n c records proper;
+        proper = proper-agree L (wordAt out) n c (λ i l. sym (records i l)) proper;
       }
 
       -- ... and permit the set
@@ -60,7 +61,7 @@ module _ (n : ℕ) (P : ℕ → Bool) (L : Words) (c top : ℕ) (proper : Proper
       unfolding permitted
       is-for = record {
         accepts = accepted-accepts out n c is-accepted;
-        permits = λ x l. ap (λ (e : ℕ). under (wordAt out) e x) has-root ∙ under-same L (wordAt out) n c records (proper .reduced) top x (omega arith) ∙ means x l;
+        permits = λ x l. ap (λ (e : ℕ). under (wordAt out) e x) has-root ∙ sym (agree-under L (wordAt out) n c (proper .reduced .ordered) c (le-refl c) (λ i l. sym (records i l)) top x (omega arith)) ∙ means x l;
       }
 
       -- so they are the table, and are what is to be written where they fit

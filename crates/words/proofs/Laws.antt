@@ -64,7 +64,7 @@ be-bytesOf p q m v (suc i) l =
     omega arith
 
 -- a word between other bytes
-word-in : (p q : List ℕ) (k v : ℕ) → length p ≡ 8 * k → v < 2 ^ 64 → wordAt (p ++ (bytesOf 8 v ++ q)) k ≡ v
+pub word-in : (p q : List ℕ) (k v : ℕ) → length p ≡ 8 * k → v < 2 ^ 64 → wordAt (p ++ (bytesOf 8 v ++ q)) k ≡ v
 unfolding wordAt
 word-in p q k v e l =
     subst (λ (n : ℕ). beAt (p ++ (bytesOf 8 v ++ q)) n 8 ≡ v) e (be-bytesOf p q 8 v 8 (omega arith) ∙ ap (λ (n : ℕ). n % 256 ^ 8) (div-one v) ∙ mod-eq-of-lt l)
