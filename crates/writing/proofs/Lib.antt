@@ -1,0 +1,3 @@
+-- The laws of writing a table between two bounds.
+pub mod Builds
+pub mod Writing

@@ -1,0 +1,3 @@
+-- The table of the setups between two bounds, written.
+pub mod Answers
+pub mod Inner
