@@ -48,7 +48,7 @@ module _ (table : List ℕ) (n N k : ℕ) (ok : Accepts table n N) (parts : 0 < 
   A = accepts-accepted table n N ok
 
   -- part-write answers what is due
-  due-is : (c : Call) → partWriting table k (c .index) (c .sheet) (length (c .out)) ≡ due table n N k c
+  pub due-is : (c : Call) → partWriting table k (c .index) (c .sheet) (length (c .out)) ≡ due table n N k c
   unfolding partWriting checkingFor partOf due andThen
   due-is c =
       rw (accepted-lent table (length (c .sheet) / 8) needed n N A, ← (none-index k (c .index) (λ e. omega arith) few), A .has-settings)

@@ -1,2 +1,4 @@
--- The samples hold.
+-- The samples, and that demand 3 is not empty.
+pub mod PartSamples
 pub mod Samples
+pub mod Calls

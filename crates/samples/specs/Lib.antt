@@ -1,2 +1,3 @@
 -- The samples that are proved.
 pub mod Samples
+pub mod Calls

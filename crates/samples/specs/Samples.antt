@@ -11,6 +11,7 @@ use Rattle.diagram.specs.Answer.{Answer, value, refusal}
 use Rattle.checking.specs.Operations.{counting}
 use Rattle.ranking.specs.Operations.{ranking, unranking}
 use Rattle.division.specs.Operations.{spanning}
+use Rattle.parts.specs.Operations.{partWriting}
 
 -- a table of N nodes, shown as hexadecimal digits
 unfoldable pub table : ℕ → ℕ → List ℕ
@@ -22,6 +23,13 @@ A = table 3 0x0C00000060000006_0400000000000001_0800000040000003_0C0000008000000
 -- A with the root edge complemented
 unfoldable pub A′ : List ℕ
 A′ = table 3 0x0C00000060000007_0400000000000001_0800000040000003_0C00000080000000
+
+-- the parts of A, of two
+unfoldable pub A₀ : List ℕ
+A₀ = table 3 0x0C00000060000007_0400000000000001_0800000040000001_0C00000000000004
+
+unfoldable pub A₁ : List ℕ
+A₁ = table 4 0x0C00000080000008_0400000000000001_0800000040000001_0800000040000003_0C000000C0000004
 
 -- everything of 63 settings, everything of none, nothing of 3
 unfoldable pub full : List ℕ
@@ -71,6 +79,8 @@ samples =
     ∷ (parts 4 (0 ∷ 1 ∷ 2 ∷ 3 ∷ []) ≡ value (0, 2) ∷ value (2, 2) ∷ value (4, 1) ∷ value (5, 1) ∷ [])
     ∷ (parts 8 (0 ∷ 1 ∷ 2 ∷ 3 ∷ 4 ∷ 5 ∷ 6 ∷ 7 ∷ [])
     ≡ value (0, 1) ∷ value (1, 1) ∷ value (2, 1) ∷ value (3, 1) ∷ value (4, 1) ∷ value (5, 1) ∷ value (6, 0) ∷ value (6, 0) ∷ [])
+    ∷ (partWriting A 2 0 (sheet 524) 32 ≡ value A₀)
+    ∷ (partWriting A 2 1 (sheet 524) 40 ≡ value A₁)
     ∷ (counting full (sheet 1) ≡ value 9223372036854775808)
     ∷ (counting single (sheet 1) ≡ value 1)
     ∷ (setups single ≡ 0 ∷ [])
