@@ -1,4 +1,6 @@
 -- The laws of divisions.
 pub mod SpanLaws
+pub mod Within
+pub mod Parts
 pub mod Sharing
 pub mod Bounds
