@@ -1,5 +1,5 @@
 -- Rule 15 and the span of a part, in the terms of the code. Assumes nothing.
-use Prim.Native.Nat.{ℕ, suc, _+_, _-_, _*_, _/_, _^_, _≤_, _<_}
+use Prim.Native.Nat.{ℕ, _+_, _-_, _*_, _/_, _^_, _≤_, _<_}
 use mathlib.Core.Path.{_≡_, sym, _∙_}
 use mathlib.Core.Bool.{Bool, true, false, _||_}
 use native.Mathlib.Omega.{arith}
@@ -11,7 +11,8 @@ use Rattle.diagram.specs.Count.{indicator, countBelow}
 use Rattle.diagram.specs.Answer.{Answer, value, refusal}
 use Rattle.division.specs.Span.{size, start}
 use Rattle.division.specs.Operations.{noPart, spanOf}
-use Rattle.division.proofs.SpanLaws.{start-closed, start-next, start-end, start-mono}
+use Rattle.division.proofs.SpanLaws.{start-closed}
+use Rattle.division.proofs.Parts.{part-inside}
 
 -- rule 15, test by test
 module _ (k j : ℕ) where
@@ -51,7 +52,7 @@ module _ (k j c : ℕ) (b : Bool) (b-is : b ≡ noPart k j) where
 
     -- no start and no end is past c
     end-fits : start c k j + size c k j ≤ c
-    end-fits = omega (arith, start-next c k j, start-mono c k (suc j) k (some .1), start-end c k (some .0))
+    end-fits = part-inside c k j (some .1)
 
     span-is : (s z : ℕ) → s ≡ start c k j → z ≡ size c k j → value (s, z) ≡ spanOf k j c
     unfolding spanOf
