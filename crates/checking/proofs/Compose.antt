@@ -1,13 +1,15 @@
 -- The rules one after the other, and the sheet as they leave it, in the terms of the code. Assumes nothing.
 use Prim.Native.Nat.{ℕ, _+_, _*_, _/_, _≤_, _<_}
-use mathlib.Core.Path.{_≡_, sym, ap, _∙_}
+use mathlib.Core.Path.{_≡_, refl, sym, ap, _∙_}
+use mathlib.Core.Bool.{Bool, true, false, cond}
 use mathlib.Core.List.{List}
 use native.Mathlib.Omega.{arith}
 use native.Mathlib.Nat.{mul-le-mul-right}
+use lib.Dec.{eqb}
 use lib.ListN.{length}
 use borrow.Author.Tests.{eq-eqb, ne-eqb}
 use Rattle.words.specs.Words.{wordAt, wordsOver}
-use Rattle.words.proofs.Laws.{over-over}
+use Rattle.words.proofs.Laws.{over-over, length-wordsOver}
 use Rattle.diagram.specs.Format.{Words, nodes}
 use Rattle.diagram.specs.Count.{place}
 use Rattle.diagram.specs.Answer.{Answer, value, refusal, andThen}
@@ -93,3 +95,24 @@ need-some each more N p q = omega (arith, mul-le-mul-right N p)
 pub need-one : (t s : List ℕ) → (checkingFor (λ N. 1 * N + 1) t s ≡ checking t s) × (sheetAfterFor (λ N. 1 * N + 1) t s ≡ sheetAfter t s)
 unfolding checkingFor sheetAfterFor check checkHeader
 need-one t s = let e : 1 * nodes (wordAt t) + 1 ≡ nodes (wordAt t) + 1 = omega arith in (rw e, rw e)
+
+-- the check leaves the sheet's length as it was
+module _ (need : ℕ → ℕ) (some : (N : ℕ) → N + 1 ≤ need N) (t s : List ℕ) where
+  length-by : {A : Type 0} (a : Answer A) → 8 * (nodes (wordAt t) + 1) ≤ length s → length (sheetBy (wordAt t) (nodes (wordAt t)) a s) ≡ length s
+  unfolding sheetBy
+  length-by (value v) l = length-wordsOver (place (wordAt t)) (nodes (wordAt t) + 1) s l
+  length-by (refusal number k) l = go (eqb number 9)
+    where
+      go : (b : Bool) → length (cond b (wordsOver (λ _. 0) (nodes (wordAt t) + 1) s) s) ≡ length s
+      go true = length-wordsOver (λ _. 0) (nodes (wordAt t) + 1) s l
+      go false = refl
+
+  pub sheet-length : length (sheetAfterFor need t s) ≡ length s
+  unfolding sheetAfterFor checkingFor check andThen
+  sheet-length = go (checkHeader t (length s / 8) need) refl
+    where
+      go : (h : Answer (Unit {0})) → checkHeader t (length s / 8) need ≡ h → length (sheetAfterFor need t s) ≡ length s
+      go (value v) e = length-by (checkingFor need t s) (omega (arith, headed t (length s / 8) need e .enough, some (nodes (wordAt t))))
+      go (refusal number k) e =
+          let a : checkingFor need t s ≡ refusal number k = rw e in
+          ap length (sym (sheet-kept (wordAt t) (nodes (wordAt t)) (checkingFor need t s) number k s (header-refuses t (length s / 8) need number k e .0) a))

@@ -33,16 +33,20 @@ module _ (t : List ℕ) (n N k : ℕ) (ok : Accepts t n N) (parts : 0 < k) (few 
   unfolding sheet
   places m = omega (arith, length-bytesOf (8 * m) 0)
 
+  by-due : (j m b : ℕ) → partWriting t k j (sheet m) b ≡ due t n N k (asked j m b)
+  unfolding asked
+  by-due j m b = ap (partWriting t k j (sheet m)) (sym (length-bytesOf b 0)) ∙ due-is t n N k ok parts few (asked j m b)
+
   -- too few places
-  pub sheet-short : (j m b : ℕ) → m < needed N → partWriting t k j (sheet m) (length (bytesOf b 0)) ≡ refusal 10 0
+  pub sheet-short : (j m b : ℕ) → m < needed N → partWriting t k j (sheet m) b ≡ refusal 10 0
   unfolding due asked
-  sheet-short j m b l = due-is t n N k ok parts few (asked j m b) ∙ rw (places m, lt-ltb m (needed N) l)
+  sheet-short j m b l = by-due j m b ∙ rw (places m, lt-ltb m (needed N) l)
 
   module _ (m : ℕ) (enough : needed N ≤ m) (j b : ℕ) where
     -- no such part
-    pub index-high : k ≤ j → partWriting t k j (sheet m) (length (bytesOf b 0)) ≡ refusal 15 0
+    pub index-high : k ≤ j → partWriting t k j (sheet m) b ≡ refusal 15 0
     unfolding due asked
-    index-high l = due-is t n N k ok parts few (asked j m b) ∙ rw (places m, le-ltb m (needed N) enough, le-leb k j l)
+    index-high l = by-due j m b ∙ rw (places m, le-ltb m (needed N) enough, le-leb k j l)
 
     -- a part that is computed to be the table of `digits`
     module _ (l : j < k) (M digits : ℕ) (is : isTable n (inPart k j n (permitted (wordAt t))) (table M digits) ≡ true) where
@@ -56,14 +60,14 @@ module _ (t : List ℕ) (n N k : ℕ) (ok : Accepts t n N) (parts : 0 < k) (few 
       unfolding table
       long = length-bytesOf (8 * (M + 1)) digits
 
-      due-fitted : partWriting t k j (sheet m) (length (bytesOf b 0)) ≡ fitted b (some (table M digits))
+      due-fitted : partWriting t k j (sheet m) b ≡ fitted b (some (table M digits))
       unfolding due asked
-      due-fitted = due-is t n N k ok parts few (asked j m b) ∙ rw (places m, le-ltb m (needed N) enough, lt-leb k j l, found, length-bytesOf b 0)
+      due-fitted = by-due j m b ∙ rw (places m, le-ltb m (needed N) enough, lt-leb k j l, found, length-bytesOf b 0)
 
-      pub part-is : 8 * (M + 1) ≤ b → partWriting t k j (sheet m) (length (bytesOf b 0)) ≡ value (table M digits)
+      pub part-is : 8 * (M + 1) ≤ b → partWriting t k j (sheet m) b ≡ value (table M digits)
       unfolding fitted
       part-is r = due-fitted ∙ rw (long, le-ltb b (8 * (M + 1)) r)
 
-      pub out-short : b < 8 * (M + 1) → partWriting t k j (sheet m) (length (bytesOf b 0)) ≡ refusal 11 0
+      pub out-short : b < 8 * (M + 1) → partWriting t k j (sheet m) b ≡ refusal 11 0
       unfolding fitted
       out-short r = due-fitted ∙ rw (long, lt-ltb b (8 * (M + 1)) r)

@@ -10,11 +10,12 @@ use Rattle.diagram.specs.Answer.{value, andThen, each}
 use Rattle.diagram.specs.Rules.{misled, checkRecord, names, named, checkNamed, checkHeader, checkRecords, checkNames, checkDiagram, check}
 use Rattle.diagram.proofs.Counts.{total-root}
 use Rattle.diagram.proofs.Accept.{accepts-accepted}
-use Rattle.checking.specs.Operations.{checking, counting, testSetup}
+use Rattle.checking.specs.Operations.{checkingFor, counting, testSetup}
 use Rattle.ranking.specs.Operations.{rankSetup, ranking, orTooHigh, unrankSetup, unranking}
 use Rattle.division.specs.Span.{size, start}
 use Rattle.division.specs.Operations.{noPart, spanOf, spanning}
 use Rattle.samples.specs.Samples.{table, A, A′, full, single, empty, members, setups, sheet, parts, All, samples}
+use Rattle.samples.proofs.PartsOfA.{part-0, part-1}
 
 full-total : total (wordAt full) ≡ 9223372036854775808
 unfolding full table settings nodes root wordAt beAt bytesOf highField middleField lowField check checkHeader checkDiagram checkRecords checkNames each andThen height opposite edgeCount place countBelow plain holds indicator
@@ -29,4 +30,4 @@ full-count = ap value full-total
 pub samples-hold : All samples
 unfolding table A A′ full single empty members setups sheet parts All samples beAt wordAt bytesOf highField middleField lowField settings nodes root height thenEdge elseEdge bit branch flip holds plain under permitted indicator countBelow select someBelow place total andThen each misled checkRecord names named checkNamed checkHeader checkRecords checkNames checkDiagram check checkingFor counting testSetup rankSetup ranking orTooHigh unrankSetup unranking size start noPart spanOf spanning
 samples-hold =
-    (refl, (refl, (refl, (refl, (refl, (refl, (refl, (refl, (refl, (refl, (refl, (refl, (refl, (full-count, (refl, (refl, (refl, (refl, tt))))))))))))))))))
+    (refl, (refl, (refl, (refl, (refl, (refl, (refl, (refl, (refl, (refl, (refl, (refl, (refl, (part-0 524 32 (lit≤ tt) (lit≤ tt), (part-1 524 40 (lit≤ tt) (lit≤ tt), (full-count, (refl, (refl, (refl, (refl, tt))))))))))))))))))))
