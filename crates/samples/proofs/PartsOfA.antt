@@ -1,7 +1,7 @@
 -- The two parts of table A, by computing: A is accepted, and each part is a table of its setups. Assumes nothing.
 use Prim.Native.Nat.{ℕ, _≤_, _<_}
 use mathlib.Core.Path.{_≡_, refl}
-use mathlib.Core.Bool.{true}
+use mathlib.Core.Bool.{true, xor}
 use lib.Dec.{lit<, lit≤}
 use Rattle.words.specs.Words.{beAt, wordAt, bytesOf}
 use Rattle.diagram.specs.Format.{highField, middleField, lowField, settings, nodes, root, height, thenEdge, elseEdge}
@@ -20,11 +20,11 @@ unfolding table A beAt wordAt bytesOf highField middleField lowField settings no
 A-accepted = refl
 
 A₀-is : isTable 3 (inPart 2 0 3 (permitted (wordAt A))) A₀ ≡ true
-unfolding table A A₀ beAt wordAt bytesOf highField middleField lowField settings nodes root height thenEdge elseEdge misled checkRecord names named checkNamed checkHeader checkRecords checkNames checkDiagram check andThen each someBelow bit branch flip holds plain under permitted indicator countBelow size start within inPart acceptedWith isTable
+unfolding table A A₀ beAt wordAt bytesOf highField middleField lowField settings nodes root height thenEdge elseEdge misled checkRecord names named checkNamed checkHeader checkRecords checkNames checkDiagram check andThen each someBelow bit branch flip holds plain under permitted indicator countBelow size start within inPart acceptedWith isTable xor
 A₀-is = refl
 
 A₁-is : isTable 3 (inPart 2 1 3 (permitted (wordAt A))) A₁ ≡ true
-unfolding table A A₁ beAt wordAt bytesOf highField middleField lowField settings nodes root height thenEdge elseEdge misled checkRecord names named checkNamed checkHeader checkRecords checkNames checkDiagram check andThen each someBelow bit branch flip holds plain under permitted indicator countBelow size start within inPart acceptedWith isTable
+unfolding table A A₁ beAt wordAt bytesOf highField middleField lowField settings nodes root height thenEdge elseEdge misled checkRecord names named checkNamed checkHeader checkRecords checkNames checkDiagram check andThen each someBelow bit branch flip holds plain under permitted indicator countBelow size start within inPart acceptedWith isTable xor
 A₁-is = refl
 
 -- with m places and b bytes lent
