@@ -1,11 +1,10 @@
 -- What the nodes of a cut mean: what is there on one side of the bound. Assumes nothing.
 use Prim.Native.Nat.{ℕ, zero, suc, _+_, _-_, _*_, _/_, _%_, _^_, _≤_, _<_}
-use mathlib.Core.Path.{_≡_, refl, sym, ap, ap₂, _∙_}
+use mathlib.Core.Path.{_≡_, sym, ap, ap₂, _∙_}
 use mathlib.Core.Bool.{Bool, true, false, not, cond, _&&_, Bool·beq, and-true, and-false}
 use native.Mathlib.Omega.{arith}
 use native.Mathlib.Nat.{mod-one, sub-self, le-refl}
-use lib.Dec.{leb}
-use Rattle.diagram.specs.Format.{Words, height}
+use Rattle.diagram.specs.Format.{Words}
 use Rattle.diagram.specs.Meaning.{bit, branch, flip, plain, under}
 use Rattle.diagram.specs.Ordered.{Ordered}
 use Rattle.diagram.specs.Reading.{cofactor}

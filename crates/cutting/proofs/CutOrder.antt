@@ -1,5 +1,5 @@
 -- A diagram with the nodes of a cut is ordered. Assumes nothing.
-use Prim.Native.Nat.{ℕ, zero, suc, _+_, _-_, _*_, _/_, _≤_, _<_}
+use Prim.Native.Nat.{ℕ, zero, suc, _+_, _-_, _/_, _≤_, _<_}
 use mathlib.Core.Path.{_≡_, sym, ap, _∙_, subst}
 use mathlib.Core.Bool.{Bool, true, false, not, Bool·beq}
 use native.Mathlib.Omega.{arith}
@@ -12,7 +12,7 @@ use Rattle.diagram.proofs.Fields.{height-node, record-high, record-middle, reco
 use Rattle.diagram.proofs.Paths.{side, side-node, side-height}
 use Rattle.diagram.proofs.Agree.{ordered-sides, agree-height, agree-side}
 use Rattle.cutting.specs.Cut.{follow, cutEdge, cutOther, Cut}
-use Rattle.cutting.proofs.Follow.{choose, edge-zero, edge-suc, cutSide, record-sides, path-inside, path-low, half-low, edge-inside, other-inside, side-inside}
+use Rattle.cutting.proofs.Follow.{choose, edge-zero, edge-suc, cutSide, record-sides, path-inside, path-low, half-low, other-inside, side-inside}
 
 module _ (w : Words) (n B : ℕ) (D : Ordered w n B) (bound r : ℕ) (inside : r / 2 ≤ B) (from : Bool) (w′ : Words) (C : Cut w n B bound r from w′) (few : B + n < 268435455) where
   -- the nodes before

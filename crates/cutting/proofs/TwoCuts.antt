@@ -4,7 +4,7 @@ use mathlib.Core.Path.{_≡_, sym, ap, _∙_}
 use mathlib.Core.Bool.{Bool, true, false, _&&_}
 use native.Mathlib.Omega.{arith}
 use lib.Dec.{leb}
-use Rattle.diagram.specs.Format.{Words, height}
+use Rattle.diagram.specs.Format.{Words}
 use Rattle.diagram.specs.Meaning.{under}
 use Rattle.diagram.specs.Ordered.{Ordered, Reduced}
 use Rattle.diagram.proofs.Agree.{agree-height, reduced-agree}

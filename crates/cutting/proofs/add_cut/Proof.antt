@@ -1,5 +1,5 @@
 -- `cutting::add_cut` meets its contract. The loop's invariant: the cut's nodes above height h are there (`Cutting`). Assumes nothing.
-use Prim.Native.Nat.{ℕ, _+_, _≤_}
+use Prim.Native.Nat.{_+_, _≤_}
 use mathlib.Core.Path.{_≡_}
 use native.Mathlib.Omega.{arith}
 use lib.ListN.{length, length-set}

@@ -1,0 +1,3 @@
+-- The laws of marking.
+pub mod Spreading
+pub mod Marking

@@ -1,0 +1,2 @@
+-- Marking what a root leads to.
+pub mod Marks
