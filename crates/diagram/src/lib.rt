@@ -73,6 +73,16 @@ pub struct Header {
     pub root: Edge,
 }
 
+impl Header {
+    // The word of these fields.
+    pub fn word(self) -> u64
+        requires { ⌜ (self .settings ≤ 63) × (self .nodes < 2 ^ 29) × (self .root .value < 2 ^ 29) ⌝ }
+        ensures { λ r. ⌜ r ≡ recordOf (self .settings) (self .nodes) (self .root .value) ⌝ }
+    {
+        self.settings * 288230376151711744 + (self.nodes as u64) * 536870912 + self.root.value
+    }
+}
+
 // Word k: the height of node k, its then-edge (high) and its else-edge (low).
 pub struct Record {
     pub height: u64,

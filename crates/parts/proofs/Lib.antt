@@ -1,3 +1,4 @@
 -- The laws of written parts.
 pub mod Promised
 pub mod Dividing
+pub mod Extents
