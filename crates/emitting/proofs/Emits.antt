@@ -1,0 +1,67 @@
+-- Writing one node's new record, in the terms of the code. Assumes nothing.
+use Prim.Native.Nat.{ℕ, _-_, _/_, _%_, _<_}
+use mathlib.Core.Path.{_≡_, refl, sym, ap, ap₂, _∙_}
+use mathlib.Core.Bool.{true, false}
+use mathlib.Core.List.{List}
+use native.Mathlib.Omega.{arith}
+use Rattle.words.specs.Words.{wordAt, putWord}
+use Rattle.words.proofs.Cases.{less, same, more, tri}
+use Rattle.diagram.specs.Format.{Words, highField, middleField, lowField}
+use Rattle.diagram.specs.Reading.{HasFields, turn}
+use Rattle.numbering.specs.Renewal.{image, renew, Renewable, IsKey}
+use Rattle.numbering.proofs.Images.{turn-inj, normal-side, image-small}
+use Rattle.emitting.specs.Written.{numberOf, Own, Emitted, quiet, wrote}
+
+-- node v, of record z, becomes a word of fields h, t and e
+module _ (map : List ℕ) (v z word flag h t e : ℕ) (N : Renewable map v z) (K : IsKey (wordAt map) v z word flag) (F : HasFields word h t e) where
+  abbrev W : Words
+  W = wordAt map
+
+  abbrev a : ℕ
+  a = image W (middleField z)
+
+  abbrev b : ℕ
+  b = image W (lowField z)
+
+  a-small : a < 536870912
+  a-small = image-small W (middleField z) 268435456 (omega (arith, N .then-small))
+
+  b-small : b < 536870912
+  b-small = image-small W (lowField z) 268435456 (omega (arith, N .else-small))
+
+  -- its edges are what the old ones become, with one flag taken out of both
+  high-is : 0 < W v → t ≡ turn (a % 2) a
+  unfolding renew
+  high-is l = F .middle-is ∙ ap middleField (K .word-is l) ∙ normal-side (highField z) a b a-small b-small true
+
+  low-is : 0 < W v → e ≡ turn (a % 2) b
+  unfolding renew
+  low-is l = F .low-is ∙ ap lowField (K .word-is l) ∙ normal-side (highField z) a b a-small b-small false
+
+  pub own-not : t ≡ e → Own W v z → ⊥
+  own-not q O = O .apart (turn-inj (a % 2) a b (sym (high-is (O .live)) ∙ q ∙ low-is (O .live)))
+
+  -- the fields of 0 are equal
+  none : word ≡ 0 → t ≡ e
+  unfolding middleField lowField
+  none q = F .middle-is ∙ rw q refl ∙ sym (F .low-is)
+
+  pub own-is : (t ≡ e → ⊥) → Own W v z
+  own-is n = record { live = live; apart = λ q. n (high-is live ∙ ap (turn (a % 2)) q ∙ sym (low-is live)) }
+    where
+      live : 0 < W v
+      live = elim (tri 0 (W v)) [ less l ↦ l | same q ↦ absurd (n (none (K .dead (sym q)))) | more l ↦ absurd (omega arith) ]
+
+  pub emit-quiet : (out : List ℕ) → t ≡ e → Emitted W out out v z
+  emit-quiet out q = quiet (own-not q) refl
+
+  -- place m of the map holds 1 + the edge p, to node i
+  pub number-is : (m i : ℕ) → m ≡ W v → i ≡ (m - 1) / 2 → i ≡ numberOf W v
+  unfolding numberOf
+  number-is m i m-is i-is = i-is ∙ ap (λ (x : ℕ). (x - 1) / 2) m-is
+
+  pub emit-wrote : (n : t ≡ e → ⊥) (out out′ : List ℕ) (m i : ℕ) → m ≡ W v → i ≡ (m - 1) / 2 → word < 18446744073709551616 → out′ ≡ putWord out i word → Emitted W out out′ v z
+  emit-wrote n out out′ m i m-is i-is s q =
+      let O = own-is n in
+      let w = K .word-is (O .live) in
+      wrote O (rw (← w) s) (q ∙ ap₂ (putWord out) (number-is m i m-is i-is) w)

@@ -1,0 +1,3 @@
+-- The laws of writing a table.
+pub mod Emits
+pub mod Numbers
