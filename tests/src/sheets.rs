@@ -1,10 +1,10 @@
-//! Work sheets of every class of length and content.
+//! Work sheets and out memories of every class of length and content.
 
 use crate::rng::Rng;
 
-/// The lengths at which something may change, for a table of `node_count` records.
-pub fn border_lengths(node_count: u64) -> Vec<usize> {
-    let whole = 8 * (node_count as usize + 1);
+/// The lengths at which something may change, if `places` are required.
+pub fn border_lengths(places: u64) -> Vec<usize> {
+    let whole = 8 * places as usize;
     let mut lengths = vec![0, 1, 7, whole - 8, whole - 1];
     lengths.extend(whole..=whole + 9);
     lengths.push(whole + 4096 + 3);
@@ -12,8 +12,8 @@ pub fn border_lengths(node_count: u64) -> Vec<usize> {
 }
 
 /// A length of a random class; about two in three are long enough.
-pub fn random_length(rng: &mut Rng, node_count: u64) -> usize {
-    let whole = 8 * (node_count as usize + 1);
+pub fn random_length(rng: &mut Rng, places: u64) -> usize {
+    let whole = 8 * places as usize;
     match rng.below(16) {
         0 => 0,
         1 => rng.between(1, 7) as usize,
@@ -28,8 +28,8 @@ pub fn random_length(rng: &mut Rng, node_count: u64) -> usize {
 }
 
 /// A length that is enough.
-pub fn served_length(rng: &mut Rng, node_count: u64) -> usize {
-    8 * (node_count as usize + 1) + rng.pick(&[0, 0, 1, 3, 7, 8, 50])
+pub fn served_length(rng: &mut Rng, places: u64) -> usize {
+    8 * places as usize + rng.pick(&[0, 0, 1, 3, 7, 8, 50])
 }
 
 /// Zeros, ones or random bytes.
