@@ -3,7 +3,7 @@
 use std::time::Instant;
 
 use crate::call::{Answer, Call, Outcome};
-use crate::layout::{bytes_of, fields, words_of};
+use crate::layout::bytes_of;
 use crate::library::Lent;
 use crate::paper;
 use crate::reading::Table;
@@ -76,27 +76,27 @@ impl Comparison {
 
     /// A call with a sheet and an out memory of random lengths and contents.
     pub fn compare_any(&mut self, call: Call, table: &[u8]) -> Answer {
-        let places = call.places(sheet_nodes(table));
-        let sheet_len = sheets::random_length(&mut self.rng, places);
-        let out_words = paper::part_words(call, table);
-        let out_len = sheets::random_length(&mut self.rng, out_words.max(1));
+        let sheet_len = sheets::random_length(&mut self.rng, sheets::needed(call, table));
+        let out_len = match paper::out_needed(call, table) {
+            0 => self.rng.index(20),
+            needed => sheets::random_length(&mut self.rng, needed),
+        };
         self.compare_lengths(call, table, sheet_len, out_len).answer
     }
 
     /// A call with a sheet and an out memory that are long enough.
     pub fn compare_served(&mut self, call: Call, table: &[u8]) -> Answer {
-        let places = call.places(sheet_nodes(table));
-        let sheet_len = sheets::served_length(&mut self.rng, places);
-        let out_len = sheets::served_length(&mut self.rng, paper::part_words(call, table));
+        let sheet_len = sheets::served_length(&mut self.rng, sheets::needed(call, table));
+        let out_len = sheets::served_length(&mut self.rng, paper::out_needed(call, table));
         self.compare_lengths(call, table, sheet_len, out_len).answer
     }
 
-    /// Writes a part, with a sheet and an out memory that are long enough. Gives back its table.
+    /// Writes a part, with a sheet and an out memory that are just long enough. Gives back its
+    /// table.
     pub fn written_part(&mut self, table: &[u8], k: u64, j: u64) -> Vec<u8> {
         let call = Call::PartWrite { k, j };
-        let sheet_len = 8 * call.places(sheet_nodes(table)) as usize;
-        let out_len = 8 * paper::part_words(call, table) as usize;
-        let outcome = self.compare_lengths(call, table, sheet_len, out_len);
+        let out_len = paper::out_needed(call, table);
+        let outcome = self.compare_lengths(call, table, sheets::needed(call, table), out_len);
         front(&outcome).to_vec()
     }
 
@@ -225,15 +225,6 @@ pub fn random_part(rng: &mut Rng) -> (u64, u64) {
         _ => rng.below(k.max(1)),
     };
     (k, j)
-}
-
-/// The number of records for which sheets are cut: N, or the records there are if N is greater.
-fn sheet_nodes(table: &[u8]) -> u64 {
-    let words = table.len() as u64 / 8;
-    let header = words_of(&table[..table.len().min(8)]);
-    header
-        .first()
-        .map_or(0, |&header| fields(header).1.min(words))
 }
 
 /// Prints past the capture of the test harness.

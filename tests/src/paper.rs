@@ -46,14 +46,15 @@ pub fn expect(call: Call, table: &[u8], sheet: &[u8], out: &[u8]) -> Expected {
     }
 }
 
-/// How many words the part has that a call asks for; 0 if it asks for none or none is settled.
-pub fn part_words(call: Call, table: &[u8]) -> u64 {
+/// The length that a call needs of its out memory: that of the part, if it asks for one and it is
+/// settled, or else 0.
+pub fn out_needed(call: Call, table: &[u8]) -> usize {
     if !matches!(call, Call::PartWrite { .. }) {
         return 0;
     }
     let faults = table_refusals(call, table, usize::MAX);
     let part = Settled::read(table, &faults).and_then(|settled| settled.part(call));
-    part.map_or(0, |words| words.len() as u64)
+    part.map_or(0, |words| 8 * words.len())
 }
 
 /// Those of refusals 1 to 10 that hold, in the paper's order.

@@ -305,8 +305,8 @@ pub fn extreme(n: u64) -> Vec<Vec<u64>> {
     extreme
 }
 
-/// One record a height from 3 to n - 3: whether the number of zeros among these settings is even.
-/// No table has parts with more records beyond its own: 2n - 2.
+/// One record a height from 3 to n - 3: permitted if the number of zeros among these settings is
+/// even. Its parts have up to 2n - 2 records more than it has, as many as any table's.
 pub fn parity(n: u64) -> Vec<u64> {
     let mut words = vec![word(n, n - 5, 2 * (n - 5))];
     for k in 1..=n - 5 {

@@ -1,5 +1,5 @@
-//! The library against the paper: answers and every byte of the sheet, all operations over tables
-//! of every kind.
+//! The library against the paper: answers and every byte of sheet and out memory, all operations
+//! over tables of every kind.
 
 use setupbook_tests::call::Call;
 use setupbook_tests::comparison::{random_part, Comparison};
@@ -35,7 +35,7 @@ fn library_agrees_with_the_paper() {
     ]);
     comparison.tally.assert_every_answer();
     comparison.tally.assert_every_pair();
-    assert!(comparison.tally.cases >= 400_000);
+    assert!(comparison.tally.cases >= 450_000);
 }
 
 /// Compares a table made from a truth table, and its answers with the truth table itself.
@@ -121,7 +121,7 @@ fn every_sheet(comparison: &mut Comparison) {
             damage::aim(&mut comparison.rng, &mut words, refusal);
         }
         let table = bytes_of(&words);
-        let (n, node_count, _) = fields(words[0]);
+        let (n, ..) = fields(words[0]);
         let setup = comparison.rng.below(1 << n);
         let rank = comparison.rng.below(1 << n);
         let (k, j) = random_part(&mut comparison.rng);
@@ -137,8 +137,8 @@ fn every_sheet(comparison: &mut Comparison) {
             Call::SpanSize { k, j },
             Call::PartWrite { k, j },
         ] {
-            let out = vec![0x55; 8 * paper::part_words(call, &table) as usize];
-            for len in sheets::border_lengths(call.places(node_count)) {
+            let out = vec![0x55; paper::out_needed(call, &table)];
+            for len in sheets::border_lengths(sheets::needed(call, &table)) {
                 for sheet in [vec![0; len], vec![0xFF; len], comparison.rng.bytes(len)] {
                     comparison.compare(call, &table, &sheet, &out);
                 }
@@ -279,14 +279,13 @@ fn wide_parts(comparison: &mut Comparison) {
         let mut words = wide.clone();
         damage::fault_on_top(&mut words, refusal);
         let mut table = bytes_of(&words);
-        let mut sheet_len = 8 * (4 * words.len() + 508);
-        match refusal {
-            1 => table.push(0),
-            10 => sheet_len -= 1,
-            _ => {}
+        if refusal == 1 {
+            table.push(0);
         }
         let j = comparison.rng.below(k);
+        let call = Call::PartWrite { k, j };
+        let sheet_len = sheets::needed(call, &table) - usize::from(refusal == 10);
         let out_len = comparison.rng.pick(&[0, 8 * 65_536]);
-        comparison.compare_lengths(Call::PartWrite { k, j }, &table, sheet_len, out_len);
+        comparison.compare_lengths(call, &table, sheet_len, out_len);
     }
 }

@@ -6,6 +6,7 @@ use setupbook_tests::comparison::{front, Comparison};
 use setupbook_tests::layout::bytes_of;
 use setupbook_tests::library::Lent;
 use setupbook_tests::rng::Rng;
+use setupbook_tests::sheets;
 use setupbook_tests::tables;
 
 #[test]
@@ -37,8 +38,8 @@ impl Division<'_> {
     /// Writes all parts into one memory, and some of them, and some that there are not, into that
     /// one or into another, which may be too short.
     fn write(comparison: &mut Comparison, table: Vec<u8>, k: u64) -> Division<'_> {
-        let nodes = table.len() / 8 - 1;
-        let (sheet_len, out_len) = (8 * (4 * nodes + 512), 8 * (nodes + 126));
+        let sheet_len = sheets::needed(Call::PartWrite { k, j: 0 }, &table);
+        let out_len = table.len() + 1000; // for 125 new records
         let rng = &mut comparison.rng;
         let mut calls: Vec<(u64, bool)> = (0..k).map(|j| (j, false)).collect();
         for _ in 0..2 + k / 2 {

@@ -108,8 +108,8 @@ fn tables_and_parts(comparison: &mut Comparison, rounds: u64) -> Vec<(Vec<u8>, C
 
 fn every_out(comparison: &mut Comparison) {
     for (table, call) in tables_and_parts(comparison, 250) {
-        let sheet_len = 8 * call.places(table.len() as u64 / 8 - 1) as usize;
-        for out_len in sheets::border_lengths(paper::part_words(call, &table)) {
+        let sheet_len = sheets::needed(call, &table);
+        for out_len in sheets::border_lengths(paper::out_needed(call, &table)) {
             for _ in 0..2 {
                 comparison.compare_lengths(call, &table, sheet_len, out_len);
             }
@@ -120,15 +120,14 @@ fn every_out(comparison: &mut Comparison) {
 /// The sheet after a written part, after 11 and after 15, about N + 1 and about 4N + 512 places.
 fn every_sheet(comparison: &mut Comparison) {
     for (table, call) in tables_and_parts(comparison, 60) {
-        let enough = 8 * paper::part_words(call, &table) as usize;
+        let enough = paper::out_needed(call, &table);
         for (call, out_len) in [
             (call, enough),
             (call, enough - 1),
             (Call::PartWrite { k: 7, j: 7 }, enough),
         ] {
-            let node_count = table.len() as u64 / 8 - 1;
-            for places in [Call::Count.places(node_count), call.places(node_count)] {
-                for sheet_len in sheets::border_lengths(places) {
+            for other in [Call::Count, call] {
+                for sheet_len in sheets::border_lengths(sheets::needed(other, &table)) {
                     comparison.compare_lengths(call, &table, sheet_len, out_len);
                 }
             }
@@ -183,7 +182,7 @@ const MOST: usize = 8 * 65_536;
 fn write_any(comparison: &mut Comparison, table: &[u8], k: u64, out_len: usize) -> Answer {
     let j = comparison.rng.below(k);
     let call = Call::PartWrite { k, j };
-    let sheet_len = 8 * call.places(table.len() as u64 / 8 - 1) as usize + 13;
+    let sheet_len = sheets::needed(call, table) + 13;
     let outcome = comparison.compare_lengths(call, table, sheet_len, out_len);
     outcome.answer
 }
@@ -195,7 +194,7 @@ fn refused(number: u64) -> Answer {
 /// Below settings that change nothing, all of 2^a parts have one record more in each of the a
 /// topmost heights: with 65,535 - a records in the table 65,535, and more if there are more parts.
 fn about_the_limit(comparison: &mut Comparison) {
-    for added in [1, 2, 8, 14] {
+    for added in [0, 1, 7, 14] {
         let words = tables::wide(&mut comparison.rng, 40, 65_535 - added, 5_000);
         let table = bytes_of(&tables::with_settings_above(words, 23));
         let k = 1 << added;
