@@ -9,7 +9,8 @@
  *
  * A division into k parts gives consecutive ranks to part 0, part 1, ... part k - 1: C / k to each,
  * rounded down, and one more to each of the first C % k. A part is a table over the same settings
- * that permits these setups only, with the fewest nodes that such a table can have, N'.
+ * that permits these setups only, with the fewest nodes that such a table can have, N' (none if the
+ * part is empty).
  *
  * Memory: `table` has table_len bytes and is only read. `sheet` is a work sheet of sheet_len bytes:
  * 8 * (N + 1) are needed, as many as an accepted table has, and for part-write 8 * (4 * N + 512).
