@@ -1,5 +1,5 @@
 /*
- * The setup book: rank and unrank over a reduced OBDD with complement edges.
+ * The setup book: rank, unrank and part-write over a reduced OBDD with complement edges.
  *
  * A table is a decision diagram over n settings (0 to 63) with N nodes (0 to 65,535) as a row of
  * N + 1 words of 64 bits, most significant byte first; docs/FORMAT.md has the fields. It permits
@@ -7,18 +7,27 @@
  * has weight 2^(n-1), so that the lexicographic order of setups is the order of numbers. The rank
  * of a permitted setup is how many permitted setups are smaller: 0 to C - 1.
  *
- * Memory: `table` has table_len bytes and is only read. `sheet` is a work sheet of sheet_len bytes;
- * at least 8 * (N + 1) are needed, as many as an accepted table has. The two share no byte, and
- * nobody else writes them during a call. Neither pointer is null; neither needs an alignment.
+ * A division into k parts gives consecutive ranks to part 0, part 1, ... part k - 1: C / k to each,
+ * rounded down, and one more to each of the first C % k. A part is a table over the same settings
+ * that permits these setups only, with the fewest nodes that such a table can have, N' (none if the
+ * part is empty).
+ *
+ * Memory: `table` has table_len bytes and is only read. `sheet` is a work sheet of sheet_len bytes:
+ * 8 * (N + 1) are needed, as many as an accepted table has, and for part-write 8 * (4 * N + 512).
+ * `out` receives the part: 8 * (N' + 1) of its out_len bytes are needed. These memories share no
+ * byte, and nobody else writes them during a call. No pointer is null; none needs an alignment.
  * Lengths and contents may be any: there is nothing to check before a call. A call allocates
  * nothing, keeps nothing and takes about 66 KiB of stack.
  *
  * Sheet afterwards, its first N + 1 words (most significant byte first), by what was answered:
  *     refusals 1 to 8, and 10          unchanged
  *     refusal 9                        zero
- *     refusals 12 to 14, or a result   word k is the model count of node k over the settings from
+ *     refusals 11 to 16, or a result   word k is the model count of node k over the settings from
  *                                      its own down to the last; word 0 is 1
- * All bytes behind them are unchanged. No call depends on what the sheet held before.
+ * Words N + 1 to 4 * N + 511 may hold anything after part-write has answered a result, 16 or 11.
+ * All other bytes are unchanged. No call depends on what the sheet held before.
+ *
+ * Out memory afterwards: the part in front, if it was written; all other bytes are unchanged.
  *
  * Answer: the result, which is below 2^63, or 2^63 + 2^32 * refusal + place. The place is the
  * record k (1 to N) for refusals 4 to 9, otherwise 0. The first refusal that holds is answered,
@@ -27,7 +36,7 @@
  *      2  N is above 65,535
  *      1  table_len is not 8 * (N + 1)
  *      3  the root edge does not lead to node N
- *     10  sheet_len is under 8 * (N + 1)
+ *     10  sheet_len is under 8 * (N + 1), or for part-write under 8 * (4 * N + 512)
  *         then for record 1, record 2, ... to N:
  *      4    its height is 0 or above n
  *      5    it is not above the record before it, as an unsigned number
@@ -38,7 +47,9 @@
  *     12  rank: the setup is 2^n or more
  *     13  rank: the setup is not permitted
  *     14  unrank: the rank is C or more
- * The other numbers belong to other operations.
+ *     15  part-write: k is 0 or above 65,535, or j is k or more
+ *     16  part-write: the part needs more than 65,535 nodes
+ *     11  part-write: out_len is under 8 * (N' + 1)
  */
 #ifndef SETUPBOOK_H
 #define SETUPBOOK_H
@@ -57,6 +68,19 @@ uint64_t setupbook_rank(const uint8_t *table, size_t table_len, uint64_t setup,
 /* The permitted setup that has this rank. Refusals 1 to 10, 14. */
 uint64_t setupbook_unrank(const uint8_t *table, size_t table_len, uint64_t rank,
                           uint8_t *sheet, size_t sheet_len);
+
+/* Writes part j of k to `out`. Answers its length in bytes. Refusals 1 to 10, 15, 16, 11. */
+uint64_t setupbook_part_write(const uint8_t *table, size_t table_len, uint64_t k, uint64_t j,
+                              uint8_t *sheet, size_t sheet_len, uint8_t *out, size_t out_len);
+
+/* The length of the longest table, N = 65,535: out memory that is never too short. */
+#define SETUPBOOK_LONGEST 524288
+
+/* The sheet that serves an accepted table of this length in every call: 4 * N + 512 words. */
+static inline size_t setupbook_sheet_len(size_t table_len)
+{
+    return 4 * table_len + 4064;
+}
 
 /* 1 if the answer is a refusal, 0 if it is a result. */
 static inline int setupbook_is_refusal(uint64_t answer)

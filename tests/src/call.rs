@@ -13,6 +13,17 @@ pub enum Call {
     Unrank { rank: u64 },
     SpanStart { k: u64, j: u64 },
     SpanSize { k: u64, j: u64 },
+    PartWrite { k: u64, j: u64 },
+}
+
+impl Call {
+    /// How many places of the sheet the call requires, for a table of `node_count` records.
+    pub fn places(self, node_count: u64) -> u64 {
+        match self {
+            Call::PartWrite { .. } => 4 * node_count + 512,
+            _ => node_count + 1,
+        }
+    }
 }
 
 /// A refusal: its number and its place.
@@ -53,15 +64,16 @@ impl fmt::Debug for Answer {
     }
 }
 
-/// The answer of a call and the whole sheet afterwards.
+/// The answer of a call, and the whole sheet and out memory afterwards.
 #[derive(Clone, Debug, PartialEq, Eq)]
 pub struct Outcome {
     pub answer: Answer,
     pub sheet: Vec<u8>,
+    pub out: Vec<u8>,
 }
 
 /// A case for a message: the table's first words, and the lengths.
-pub fn describe(seed: u64, call: Call, table: &[u8], sheet_len: usize) -> String {
+pub fn describe(seed: u64, call: Call, table: &[u8], sheet_len: usize, out_len: usize) -> String {
     let words = words_of(table);
     let shown: Vec<String> = words
         .iter()
@@ -70,7 +82,7 @@ pub fn describe(seed: u64, call: Call, table: &[u8], sheet_len: usize) -> String
         .collect();
     let more = if words.len() > 20 { " ..." } else { "" };
     format!(
-        "seed {seed}, {call:?}\ntable of {} bytes: {}{more}\nsheet of {sheet_len} bytes",
+        "seed {seed}, {call:?}\ntable of {} bytes: {}{more}\nsheet of {sheet_len} bytes, out memory of {out_len} bytes",
         table.len(),
         shown.join(" "),
     )

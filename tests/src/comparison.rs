@@ -1,11 +1,12 @@
-//! Runs a call in the library and after the paper and compares answer and sheet.
+//! Runs a call in the library and after the paper and compares answer, sheet and out memory.
 
 use std::time::Instant;
 
-use crate::call::{describe, Answer, Call, Outcome};
-use crate::layout::{bytes_of, fields, words_of};
-use crate::library::Library;
+use crate::call::{Answer, Call, Outcome};
+use crate::layout::bytes_of;
+use crate::library::Lent;
 use crate::paper;
+use crate::reading::Table;
 use crate::rng::Rng;
 use crate::sheets;
 use crate::tally::Tally;
@@ -16,7 +17,8 @@ pub type Group = fn(&mut Comparison);
 pub struct Comparison {
     seed: u64,
     pub rng: Rng,
-    library: Library,
+    /// For the places and guards of lent memory.
+    lending: Rng,
     pub tally: Tally,
 }
 
@@ -25,7 +27,7 @@ impl Comparison {
         Comparison {
             seed,
             rng: Rng::new(seed),
-            library: Library::new(seed),
+            lending: Rng::new(!seed),
             tally: Tally::default(),
         }
     }
@@ -44,46 +46,75 @@ impl Comparison {
         report(&format!("seed {}: {}", self.seed, self.tally.summary()));
     }
 
-    /// One case. Gives back the answer.
-    pub fn compare(&mut self, call: Call, table: &[u8], sheet: &[u8]) -> Answer {
-        let refusals = paper::refusals(call, table, sheet.len());
-        let expected = paper::run(call, table, sheet, refusals.first().copied());
-        let found = self.library.run(call, table, sheet);
-        if found != expected {
-            panic!("{}", self.difference(call, table, sheet, &expected, &found));
-        }
-        self.tally.note(call, &refusals);
-        expected.answer
+    /// Memory with this content, for any number of calls.
+    pub fn lend(&mut self, table: &[u8], sheet: &[u8], out: &[u8]) -> Lent {
+        Lent::new(self.seed, &mut self.lending, table, sheet, out)
     }
 
-    fn difference(
-        &self,
+    /// One case, in memory of its own. Gives back what the library has done.
+    pub fn compare(&mut self, call: Call, table: &[u8], sheet: &[u8], out: &[u8]) -> Outcome {
+        let mut lent = self.lend(table, sheet, out);
+        self.compare_in(call, &mut lent)
+    }
+
+    /// One case, in memory that other calls may have used.
+    pub fn compare_in(&mut self, call: Call, lent: &mut Lent) -> Outcome {
+        let mut expected = paper::expect(call, lent.table(), lent.sheet(), lent.out());
+        let found = lent.run(call);
+        let loose = expected.loose;
+        expected.outcome.sheet[loose.clone()].copy_from_slice(&found.sheet[loose]);
+        if found != expected.outcome {
+            panic!(
+                "{}\n{}",
+                lent.describe(call),
+                difference(&expected.outcome, &found)
+            );
+        }
+        self.tally.note(call, &expected.refusals);
+        found
+    }
+
+    /// A call with a sheet and an out memory of random lengths and contents.
+    pub fn compare_any(&mut self, call: Call, table: &[u8]) -> Answer {
+        let sheet_len = sheets::random_length(&mut self.rng, sheets::needed(call, table));
+        let out_len = match paper::out_needed(call, table) {
+            0 => self.rng.index(20),
+            needed => sheets::random_length(&mut self.rng, needed),
+        };
+        self.compare_lengths(call, table, sheet_len, out_len).answer
+    }
+
+    /// A call with a sheet and an out memory that are long enough.
+    pub fn compare_served(&mut self, call: Call, table: &[u8]) -> Answer {
+        let sheet_len = sheets::served_length(&mut self.rng, sheets::needed(call, table));
+        let out_len = sheets::served_length(&mut self.rng, paper::out_needed(call, table));
+        self.compare_lengths(call, table, sheet_len, out_len).answer
+    }
+
+    /// Writes a part, with a sheet and an out memory that are just long enough. Gives back its
+    /// table.
+    pub fn written_part(&mut self, table: &[u8], k: u64, j: u64) -> Vec<u8> {
+        let call = Call::PartWrite { k, j };
+        let out_len = paper::out_needed(call, table);
+        let outcome = self.compare_lengths(call, table, sheets::needed(call, table), out_len);
+        front(&outcome).to_vec()
+    }
+
+    /// A call with a sheet and an out memory of these lengths and of random contents.
+    pub fn compare_lengths(
+        &mut self,
         call: Call,
         table: &[u8],
-        sheet: &[u8],
-        expected: &Outcome,
-        found: &Outcome,
-    ) -> String {
-        let sheets = match (0..sheet.len()).find(|&i| expected.sheet[i] != found.sheet[i]) {
-            None => "the sheets are equal".to_string(),
-            Some(i) => format!(
-                "the sheets differ from byte {i} (place {}): {:02X} by the paper, {:02X} by the library, {:02X} before",
-                i / 8,
-                expected.sheet[i],
-                found.sheet[i],
-                sheet[i],
-            ),
-        };
-        format!(
-            "{}\nby the paper:   {:?}\nby the library: {:?}\n{sheets}",
-            describe(self.seed, call, table, sheet.len()),
-            expected.answer,
-            found.answer,
-        )
+        sheet_len: usize,
+        out_len: usize,
+    ) -> Outcome {
+        let sheet = sheets::random_content(&mut self.rng, sheet_len);
+        let out = sheets::random_content(&mut self.rng, out_len);
+        self.compare(call, table, &sheet, &out)
     }
 
-    /// All operations, with setups, ranks and parts at the borders and random ones, each with a
-    /// sheet of its own.
+    /// All operations, with setups, ranks and parts at the borders and random ones, each with
+    /// memories of its own.
     pub fn compare_all(&mut self, table: &[u8]) {
         let mut calls = vec![Call::Check, Call::Count];
         for setup in self.setups(table) {
@@ -94,24 +125,19 @@ impl Comparison {
         }
         for _ in 0..3 {
             let (k, j) = random_part(&mut self.rng);
-            calls.extend([Call::SpanStart { k, j }, Call::SpanSize { k, j }]);
+            calls.extend([
+                Call::SpanStart { k, j },
+                Call::SpanSize { k, j },
+                Call::PartWrite { k, j },
+            ]);
         }
         for call in calls {
-            let len = sheets::random_length(&mut self.rng, sheet_nodes(table));
-            let sheet = sheets::random_content(&mut self.rng, len);
-            self.compare(call, table, &sheet);
+            self.compare_any(call, table);
         }
     }
 
     pub fn compare_words(&mut self, words: &[u64]) {
         self.compare_all(&bytes_of(words));
-    }
-
-    /// A call with a sheet that is long enough.
-    pub fn compare_served(&mut self, call: Call, table: &[u8]) -> Answer {
-        let len = sheets::served_length(&mut self.rng, sheet_nodes(table));
-        let sheet = sheets::random_content(&mut self.rng, len);
-        self.compare(call, table, &sheet)
     }
 
     /// 0, 2^n - 1, 2^n, 2^64 - 1, one below 2^n and any one.
@@ -131,13 +157,54 @@ impl Comparison {
     /// 0, C - 1, C, 2^64 - 1, one below C and any one; of a refused table without C.
     fn ranks(&mut self, table: &[u8]) -> Vec<u64> {
         let mut ranks = vec![0, u64::MAX, self.rng.word()];
-        if paper::refusals(Call::Count, table, usize::MAX).is_empty() {
-            let table = paper::Table::read(table);
+        if paper::table_refusals(Call::Count, table, usize::MAX).is_empty() {
+            let table = Table::read(table);
             let count = u64::try_from(table.total(&table.counts())).unwrap();
             ranks.extend([count, count.saturating_sub(1), self.rng.below(count.max(1))]);
         }
         ranks
     }
+}
+
+fn difference(expected: &Outcome, found: &Outcome) -> String {
+    let mut text = format!(
+        "by the paper:   {:?}\nby the library: {:?}",
+        expected.answer, found.answer,
+    );
+    for (what, by_paper, by_library) in [
+        ("sheets", &expected.sheet, &found.sheet),
+        ("out memories", &expected.out, &found.out),
+    ] {
+        match (0..by_paper.len()).find(|&i| by_paper[i] != by_library[i]) {
+            None => text += &format!("\nthe {what} are equal"),
+            Some(i) => {
+                text += &format!(
+                    "\nthe {what} differ from byte {i} (word {}): {:02X} by the paper, {:02X} by the library",
+                    i / 8,
+                    by_paper[i],
+                    by_library[i],
+                )
+            }
+        }
+    }
+    text
+}
+
+/// The part that a call has written; it has not been refused.
+pub fn front(outcome: &Outcome) -> &[u8] {
+    &outcome.out[..outcome.answer.0 as usize]
+}
+
+/// Every k and j at a border.
+pub fn border_parts() -> Vec<(u64, u64)> {
+    let great = [(1 << 32) + 1, 1 << 63, (1 << 63) + 1, u64::MAX];
+    let numbers = [&[0, 1, 2, 3, 65_534, 65_535, 65_536, 65_537], &great[..]].concat();
+    let mut parts = Vec::new();
+    for &k in &numbers {
+        let near = [k.wrapping_sub(1), k.wrapping_add(1)];
+        parts.extend(numbers.iter().chain(&near).map(|&j| (k, j)));
+    }
+    parts
 }
 
 /// A k and a j of random classes; more than half are served.
@@ -158,14 +225,6 @@ pub fn random_part(rng: &mut Rng) -> (u64, u64) {
         _ => rng.below(k.max(1)),
     };
     (k, j)
-}
-
-/// The number of records for which sheets are cut: N, or the records there are if N is greater.
-pub fn sheet_nodes(table: &[u8]) -> u64 {
-    let words = words_of(table);
-    words
-        .first()
-        .map_or(0, |&header| fields(header).1.min(words.len() as u64))
 }
 
 /// Prints past the capture of the test harness.

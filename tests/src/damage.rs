@@ -137,6 +137,24 @@ pub fn break_last_record(rng: &mut Rng, words: &mut [u64], rules: &[u64]) {
     words[k as usize] = word(height, then_edge, else_edge);
 }
 
+/// Puts one or two records on top of a table, with a fault of rule 3, 5, 7, 8 or 9, or without
+/// one. They leave it settled which setups are permitted, and the old root is still reached.
+pub fn fault_on_top(words: &mut Vec<u64>, refusal: u64) {
+    let (n, node_count, _) = fields(words[0]);
+    let (height, ..) = fields(words[node_count as usize]);
+    let edge = 2 * node_count;
+    match refusal {
+        5 => words.extend([word(height + 2, edge, 0), word(height + 1, edge, 1)]),
+        7 => words.push(word(height + 1, edge + 1, 0)),
+        8 => words.push(word(height + 1, edge, edge)),
+        9 => words.extend([word(height + 1, edge, 1), word(height + 2, edge, 0)]),
+        _ => words.push(word(height + 1, edge, 0)),
+    }
+    let last = words.len() as u64 - 1;
+    let root = if refusal == 3 { last - 1 } else { last };
+    words[0] = word(n, last, 2 * root);
+}
+
 /// Turns one to three bits.
 pub fn flip_bits(rng: &mut Rng, words: &mut [u64]) {
     for _ in 0..rng.between(1, 3) {

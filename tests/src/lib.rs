@@ -2,9 +2,9 @@
 //! an implementation of the paper that shares no code with it.
 //!
 //! - `call`: the calls that are compared, and what a call leaves behind
-//! - `paper`: the paper, straight
-//! - `library`: the library under test, with guarded memory
-//! - `tables`: accepted tables; `damage`: tables with faults; `sheets`: work sheets
+//! - `paper`: the paper, straight; `reading`: a table, and `part`: the table of a part, after it
+//! - `library`: the library under test; `memory`: what is lent to it, guarded
+//! - `tables`: accepted tables; `damage`: tables with faults; `sheets`: sheets and out memories
 //! - `layout`: words, bytes and the fields of a word
 //! - `comparison`: runs a call on both sides; `tally`: which cases have been met
 //! - `rng`: pseudo-random numbers
@@ -14,7 +14,10 @@ pub mod comparison;
 pub mod damage;
 pub mod layout;
 pub mod library;
+pub mod memory;
 pub mod paper;
+pub mod part;
+pub mod reading;
 pub mod rng;
 pub mod sheets;
 pub mod tables;

@@ -1,7 +1,8 @@
-//! The library under test. Every slice is lent inside a larger memory, at a varying alignment and
-//! with guard bytes of varying content on both sides; table and guards have to stay unchanged.
+//! The library under test, called with guarded memory: the table and all guards have to stay
+//! unchanged.
 
 use crate::call::{describe, Answer, Call, Outcome};
+use crate::memory::Memory;
 use crate::rng::Rng;
 
 mod ffi {
@@ -55,73 +56,82 @@ mod ffi {
             sheet: *mut u8,
             sheet_len: usize,
         ) -> u64;
+        pub fn setupbook_part_write(
+            table: *const u8,
+            table_len: usize,
+            k: u64,
+            j: u64,
+            sheet: *mut u8,
+            sheet_len: usize,
+            out: *mut u8,
+            out_len: usize,
+        ) -> u64;
     }
 }
 
-const GUARD: usize = 64;
-
-/// Bytes to be lent, with a guard on both sides.
-struct Memory {
-    bytes: Vec<u8>,
-    guards: Vec<u8>,
-    start: usize,
-    len: usize,
-}
-
-impl Memory {
-    /// The content starts at an address that is `offset` modulo 8.
-    fn new(content: &[u8], offset: usize, rng: &mut Rng) -> Memory {
-        let guards = rng.bytes(2 * GUARD + 8);
-        let mut bytes = guards.clone();
-        bytes.resize(guards.len() + content.len(), 0);
-        let address = bytes.as_ptr() as usize + GUARD;
-        let start = GUARD + (offset + 8 - address % 8) % 8;
-        bytes[start..start + content.len()].copy_from_slice(content);
-        bytes[start + content.len()..].copy_from_slice(&guards[start..]);
-        Memory {
-            bytes,
-            guards,
-            start,
-            len: content.len(),
-        }
-    }
-
-    fn pointer(&mut self) -> *mut u8 {
-        self.bytes.as_mut_ptr().wrapping_add(self.start)
-    }
-
-    fn content(&self) -> &[u8] {
-        &self.bytes[self.start..self.start + self.len]
-    }
-
-    fn guards_unchanged(&self) -> bool {
-        let (before, after) = self.guards.split_at(self.start);
-        &self.bytes[..self.start] == before && &self.bytes[self.start + self.len..] == after
-    }
-}
-
-/// Lends memory to the library and calls it.
-pub struct Library {
+/// The memories lent to the library, for one call or for several, one after another.
+pub struct Lent {
     seed: u64,
-    rng: Rng,
+    table: Memory,
+    sheet: Memory,
+    out: Memory,
 }
 
-impl Library {
-    pub fn new(seed: u64) -> Library {
-        Library {
+impl Lent {
+    /// The random numbers place and guard the memories; the seed is for messages.
+    pub fn new(seed: u64, rng: &mut Rng, table: &[u8], sheet: &[u8], out: &[u8]) -> Lent {
+        let [table, sheet, out] = [table, sheet, out].map(|content| Memory::new(content, rng));
+        Lent {
             seed,
-            rng: Rng::new(!seed),
+            table,
+            sheet,
+            out,
         }
     }
 
-    pub fn run(&mut self, call: Call, table: &[u8], sheet: &[u8]) -> Outcome {
-        let offsets = (self.rng.index(8), self.rng.index(8));
-        let mut lent_table = Memory::new(table, offsets.0, &mut self.rng);
-        let mut lent_sheet = Memory::new(sheet, offsets.1, &mut self.rng);
-        let (t, t_len) = (lent_table.pointer().cast_const(), table.len());
-        let (s, s_len) = (lent_sheet.pointer(), sheet.len());
-        // SAFETY: each pointer is valid for its length, and the two memories lie apart.
-        let answer = unsafe {
+    pub fn table(&self) -> &[u8] {
+        self.table.content()
+    }
+
+    pub fn sheet(&self) -> &[u8] {
+        self.sheet.content()
+    }
+
+    pub fn out(&self) -> &[u8] {
+        self.out.content()
+    }
+
+    pub fn run(&mut self, call: Call) -> Outcome {
+        let answer = self.call(call);
+        for (unchanged, what) in [
+            (self.table.is_unchanged(), "the table has"),
+            (self.sheet.guards_unchanged(), "bytes beside the sheet have"),
+            (
+                self.out.guards_unchanged(),
+                "bytes beside the out memory have",
+            ),
+        ] {
+            assert!(unchanged, "{what} changed\n{}", self.describe(call));
+        }
+        Outcome {
+            answer: Answer(answer),
+            sheet: self.sheet().to_vec(),
+            out: self.out().to_vec(),
+        }
+    }
+
+    /// The case for a message.
+    pub fn describe(&self, call: Call) -> String {
+        let (sheet_len, out_len) = (self.sheet().len(), self.out().len());
+        describe(self.seed, call, self.table(), sheet_len, out_len)
+    }
+
+    fn call(&mut self, call: Call) -> u64 {
+        let (t, t_len) = self.table.lend();
+        let (s, s_len) = self.sheet.lend();
+        let (o, o_len) = self.out.lend();
+        // SAFETY: each pointer is valid for its length, and the three memories lie apart.
+        unsafe {
             match call {
                 Call::Check => ffi::setupbook_check(t, t_len, s, s_len),
                 Call::Count => ffi::setupbook_count(t, t_len, s, s_len),
@@ -130,27 +140,10 @@ impl Library {
                 Call::Unrank { rank } => ffi::setupbook_unrank(t, t_len, rank, s, s_len),
                 Call::SpanStart { k, j } => ffi::setupbook_span_start(t, t_len, k, j, s, s_len),
                 Call::SpanSize { k, j } => ffi::setupbook_span_size(t, t_len, k, j, s, s_len),
+                Call::PartWrite { k, j } => {
+                    ffi::setupbook_part_write(t, t_len, k, j, s, s_len, o, o_len)
+                }
             }
-        };
-        let case = || describe(self.seed, call, table, sheet.len());
-        assert!(
-            lent_table.content() == table,
-            "the table has changed\n{}",
-            case()
-        );
-        assert!(
-            lent_table.guards_unchanged(),
-            "bytes beside the table have changed\n{}",
-            case()
-        );
-        assert!(
-            lent_sheet.guards_unchanged(),
-            "bytes beside the sheet have changed\n{}",
-            case()
-        );
-        Outcome {
-            answer: Answer(answer),
-            sheet: lent_sheet.content().to_vec(),
         }
     }
 }

@@ -1,35 +1,45 @@
-//! Work sheets of every class of length and content.
+//! Lengths and contents of work sheets and out memories, of every class.
 
+use crate::call::Call;
+use crate::layout::{fields, words_of};
 use crate::rng::Rng;
 
-/// The lengths at which something may change, for a table of `node_count` records.
-pub fn border_lengths(node_count: u64) -> Vec<usize> {
-    let whole = 8 * (node_count as usize + 1);
-    let mut lengths = vec![0, 1, 7, whole - 8, whole - 1];
-    lengths.extend(whole..=whole + 9);
-    lengths.push(whole + 4096 + 3);
+/// The length that a call needs of its sheet. If N says more records than there are, it is for
+/// those that there are.
+pub fn needed(call: Call, table: &[u8]) -> usize {
+    let node_count = match words_of(&table[..table.len().min(8)])[..] {
+        [header] => fields(header).1.min(table.len() as u64 / 8),
+        _ => 0,
+    };
+    8 * call.places(node_count) as usize
+}
+
+/// The lengths at which something may change.
+pub fn border_lengths(needed: usize) -> Vec<usize> {
+    let mut lengths = vec![0, 1, 7, needed - 8, needed - 1];
+    lengths.extend(needed..=needed + 9);
+    lengths.push(needed + 4096 + 3);
     lengths
 }
 
 /// A length of a random class; about two in three are long enough.
-pub fn random_length(rng: &mut Rng, node_count: u64) -> usize {
-    let whole = 8 * (node_count as usize + 1);
+pub fn random_length(rng: &mut Rng, needed: usize) -> usize {
     match rng.below(16) {
         0 => 0,
         1 => rng.between(1, 7) as usize,
-        2 => whole - 1,
-        3 => rng.index(whole),
-        4 => whole - 8,
-        5..=8 => whole,
-        9..=12 => whole + rng.between(1, 7) as usize,
-        13 => whole + rng.between(8, 64) as usize,
-        _ => whole + rng.between(65, 2048) as usize,
+        2 => needed - 1,
+        3 => rng.index(needed),
+        4 => needed - 8,
+        5..=8 => needed,
+        9..=12 => needed + rng.between(1, 7) as usize,
+        13 => needed + rng.between(8, 64) as usize,
+        _ => needed + rng.between(65, 2048) as usize,
     }
 }
 
 /// A length that is enough.
-pub fn served_length(rng: &mut Rng, node_count: u64) -> usize {
-    8 * (node_count as usize + 1) + rng.pick(&[0, 0, 1, 3, 7, 8, 50])
+pub fn served_length(rng: &mut Rng, needed: usize) -> usize {
+    needed + rng.pick(&[0, 0, 1, 3, 7, 8, 50])
 }
 
 /// Zeros, ones or random bytes.

@@ -2,6 +2,7 @@
 //! records.
 
 use std::collections::{BTreeMap, BTreeSet, HashMap, HashSet};
+use std::ops::Range;
 
 use crate::layout::{fields, word};
 use crate::rng::Rng;
@@ -38,6 +39,19 @@ pub fn random_truth_table(rng: &mut Rng, n: u64) -> TruthTable {
     } else {
         [high, low].concat()
     }
+}
+
+/// Only the permitted setups with these ranks.
+pub fn with_ranks(function: &TruthTable, ranks: Range<u64>) -> TruthTable {
+    let permitted = (0..function.len()).filter(|&setup| function[setup]);
+    let mut kept = vec![false; function.len()];
+    for (_, setup) in (0..)
+        .zip(permitted)
+        .filter(|(rank, _)| ranks.contains(rank))
+    {
+        kept[setup] = true;
+    }
+    kept
 }
 
 fn opposite(function: &TruthTable) -> TruthTable {
@@ -280,12 +294,45 @@ pub fn chain(n: u64, only_one: bool, root_flag: u64) -> Vec<u64> {
     words
 }
 
+/// The tables without records, and chains: C is 0, 1, 2^n - 1 or 2^n.
+pub fn extreme(n: u64) -> Vec<Vec<u64>> {
+    let mut extreme = vec![constant(n, false), constant(n, true)];
+    if n > 0 {
+        for (only_one, root_flag) in [(false, 0), (false, 1), (true, 0), (true, 1)] {
+            extreme.push(chain(n, only_one, root_flag));
+        }
+    }
+    extreme
+}
+
+/// One record a height from 3 to n - 3: permitted if the number of zeros among these settings is
+/// even. Its parts have up to 2n - 2 records more than it has, as many as any table's.
+pub fn parity(n: u64) -> Vec<u64> {
+    let mut words = vec![word(n, n - 5, 2 * (n - 5))];
+    for k in 1..=n - 5 {
+        let below = 2 * (k - 1);
+        words.push(word(k + 2, below, below + 1));
+    }
+    words
+}
+
 /// An accepted table with exactly `node_count` records, at most `widest` of a height. (With more
 /// than 65,535 it is accepted but for that number.)
 pub fn wide(rng: &mut Rng, n: u64, node_count: usize, widest: usize) -> Vec<u64> {
     let words = from_plan(rng, n, &wide_plan(n, node_count, widest), true);
     assert_eq!(words.len(), node_count + 1);
     words
+}
+
+/// The same diagram with settings that change nothing above all others.
+pub fn with_settings_above(mut words: Vec<u64>, more: u64) -> Vec<u64> {
+    words[0] += word(more, 0, 0);
+    words
+}
+
+/// The same diagram with settings that change nothing below all others.
+pub fn with_settings_below(words: &[u64], more: u64) -> Vec<u64> {
+    words.iter().map(|field| field + word(more, 0, 0)).collect()
 }
 
 /// Some with tens of thousands of records.

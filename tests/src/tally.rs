@@ -10,7 +10,7 @@ const SHARED: [u64; 10] = [2, 1, 3, 10, 4, 5, 6, 7, 8, 9];
 const RECORD_RULES: [u64; 5] = [4, 5, 6, 7, 8];
 
 /// Each operation with the refusals of its own, which come last.
-const OPERATIONS: [(&str, &[u64]); 7] = [
+const OPERATIONS: [(&str, &[u64]); 8] = [
     ("check", &[]),
     ("count", &[]),
     ("test", &[12]),
@@ -18,6 +18,7 @@ const OPERATIONS: [(&str, &[u64]); 7] = [
     ("unrank", &[14]),
     ("span start", &[15]),
     ("span size", &[15]),
+    ("part-write", &[15, 16, 11]),
 ];
 
 fn operation(call: Call) -> &'static str {
@@ -29,13 +30,18 @@ fn operation(call: Call) -> &'static str {
         Call::Unrank { .. } => "unrank",
         Call::SpanStart { .. } => "span start",
         Call::SpanSize { .. } => "span size",
+        Call::PartWrite { .. } => "part-write",
     }
 }
 
 /// Whether two refusals can hold together. A setup of 2^n or more is neither permitted nor
-/// unpermitted; with a fault of 4 or 6 it is not settled which setups are permitted.
+/// unpermitted; with a fault of 4 or 6 it is not settled which setups are permitted; where there
+/// is no part or no table of it, nothing more is said of it.
 fn compatible(first: u64, other: u64) -> bool {
-    !matches!((first, other), (12, 13) | (4 | 6, 13 | 14))
+    !matches!(
+        (first, other),
+        (12, 13) | (4 | 6, 13 | 14 | 16 | 11) | (15, 16 | 11) | (16, 11)
+    )
 }
 
 /// An operation, the refusal returned and another one whose condition holds too.
@@ -75,12 +81,17 @@ impl Tally {
         }
     }
 
+    /// How many cases of an operation were answered by this refusal, or by a result if it is 0.
+    pub fn answered(&self, operation: &'static str, number: u64) -> u64 {
+        self.answers.get(&(operation, number)).copied().unwrap_or(0)
+    }
+
     /// Every result and every refusal of every operation has been met, and no other.
     pub fn assert_every_answer(&self) {
         for (name, own) in OPERATIONS {
             for number in 0..=16 {
                 let possible = number == 0 || SHARED.contains(&number) || own.contains(&number);
-                let met = self.answers.contains_key(&(name, number));
+                let met = self.answered(name, number) > 0;
                 assert!(
                     met == possible,
                     "{name}, refusal {number} (0: a result): met is {met}"

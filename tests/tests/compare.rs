@@ -1,10 +1,11 @@
-//! The library against the paper: answers and every byte of the sheet, all operations over tables
-//! of every kind.
+//! The library against the paper: answers and every byte of sheet and out memory, all operations
+//! over tables of every kind.
 
 use setupbook_tests::call::Call;
 use setupbook_tests::comparison::{random_part, Comparison};
 use setupbook_tests::damage;
 use setupbook_tests::layout::{bytes_of, fields, word};
+use setupbook_tests::paper;
 use setupbook_tests::rng::Rng;
 use setupbook_tests::sheets;
 use setupbook_tests::tables::{self, TruthTable};
@@ -30,10 +31,11 @@ fn library_agrees_with_the_paper() {
         ("random words and bytes", random_bytes),
         ("every length of a table", every_length),
         ("up to 65,535 records and above", wide),
+        ("parts of more than 65,535 records", wide_parts),
     ]);
     comparison.tally.assert_every_answer();
     comparison.tally.assert_every_pair();
-    assert!(comparison.tally.cases >= 400_000);
+    assert!(comparison.tally.cases >= 450_000);
 }
 
 /// Compares a table made from a truth table, and its answers with the truth table itself.
@@ -119,24 +121,26 @@ fn every_sheet(comparison: &mut Comparison) {
             damage::aim(&mut comparison.rng, &mut words, refusal);
         }
         let table = bytes_of(&words);
-        let (n, node_count, _) = fields(words[0]);
-        for len in sheets::border_lengths(node_count) {
-            for content in [vec![0; len], vec![0xFF; len], comparison.rng.bytes(len)] {
-                let setup = comparison.rng.below(1 << n);
-                let rank = comparison.rng.below(1 << n);
-                let (k, j) = random_part(&mut comparison.rng);
-                for call in [
-                    Call::Check,
-                    Call::Count,
-                    Call::Test { setup },
-                    Call::Test { setup: 1 << n },
-                    Call::Rank { setup },
-                    Call::Rank { setup: 1 << n },
-                    Call::Unrank { rank },
-                    Call::SpanStart { k, j },
-                    Call::SpanSize { k, j },
-                ] {
-                    comparison.compare(call, &table, &content);
+        let (n, ..) = fields(words[0]);
+        let setup = comparison.rng.below(1 << n);
+        let rank = comparison.rng.below(1 << n);
+        let (k, j) = random_part(&mut comparison.rng);
+        for call in [
+            Call::Check,
+            Call::Count,
+            Call::Test { setup },
+            Call::Test { setup: 1 << n },
+            Call::Rank { setup },
+            Call::Rank { setup: 1 << n },
+            Call::Unrank { rank },
+            Call::SpanStart { k, j },
+            Call::SpanSize { k, j },
+            Call::PartWrite { k, j },
+        ] {
+            let out = vec![0x55; paper::out_needed(call, &table)];
+            for len in sheets::border_lengths(sheets::needed(call, &table)) {
+                for sheet in [vec![0; len], vec![0xFF; len], comparison.rng.bytes(len)] {
+                    comparison.compare(call, &table, &sheet, &out);
                 }
             }
         }
@@ -239,8 +243,7 @@ fn wide(comparison: &mut Comparison) {
         let answer = comparison.compare_served(Call::Check, &table);
         assert_eq!(answer.0, (n << 32) + node_count);
         comparison.compare_all(&table);
-        let short = vec![0xFF; table.len() - 1];
-        comparison.compare(Call::Count, &table, &short);
+        comparison.compare_lengths(Call::Count, &table, table.len() - 1, 0);
 
         // A fault in the last record, after all others have passed; or a record not named.
         for refusal in 4..=9 {
@@ -259,5 +262,30 @@ fn wide(comparison: &mut Comparison) {
     for _ in 0..20 {
         let setup = comparison.rng.below(1 << 40);
         comparison.compare_served(Call::Rank { setup }, &bytes_of(&words));
+    }
+    for k in [1, 65_535] {
+        let j = comparison.rng.below(k);
+        comparison.compare_lengths(Call::PartWrite { k, j }, &bytes_of(&words), 0, 0);
+    }
+}
+
+/// Refusal 16 beside every other one that leaves it settled which setups are permitted.
+fn wide_parts(comparison: &mut Comparison) {
+    let wide = tables::wide(&mut comparison.rng, 40, 65_530, 5_000);
+    let wide = tables::with_settings_above(wide, 23);
+    // The bounds of one of 2^10 parts need a record in each of the ten topmost heights.
+    let k = 1 << 10;
+    for refusal in [0, 1, 3, 5, 7, 8, 9, 10] {
+        let mut words = wide.clone();
+        damage::fault_on_top(&mut words, refusal);
+        let mut table = bytes_of(&words);
+        if refusal == 1 {
+            table.push(0);
+        }
+        let j = comparison.rng.below(k);
+        let call = Call::PartWrite { k, j };
+        let sheet_len = sheets::needed(call, &table) - usize::from(refusal == 10);
+        let out_len = comparison.rng.pick(&[0, 8 * 65_536]);
+        comparison.compare_lengths(call, &table, sheet_len, out_len);
     }
 }

@@ -10,7 +10,8 @@ use std::time::Duration;
 use setupbook_tests::call::Call;
 use setupbook_tests::damage;
 use setupbook_tests::layout::bytes_of;
-use setupbook_tests::paper::{self, Table};
+use setupbook_tests::paper;
+use setupbook_tests::reading::Table;
 use setupbook_tests::rng::Rng;
 use setupbook_tests::tables;
 
@@ -60,7 +61,7 @@ fn listing(table: &[u8]) -> String {
     if table.len() > LONGEST {
         return "too long\n".to_string();
     }
-    if let Some(refusal) = paper::refusals(Call::Count, table, usize::MAX).first() {
+    if let Some(refusal) = paper::table_refusals(Call::Count, table, usize::MAX).first() {
         return format!("refused {} at {}\n", refusal.number, refusal.place);
     }
     let table = Table::read(table);

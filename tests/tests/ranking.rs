@@ -2,7 +2,7 @@
 //! another.
 
 use setupbook_tests::call::{Answer, Call};
-use setupbook_tests::comparison::{random_part, Comparison};
+use setupbook_tests::comparison::{border_parts, random_part, Comparison};
 use setupbook_tests::layout::bytes_of;
 use setupbook_tests::rng::Rng;
 use setupbook_tests::tables::{self, TruthTable};
@@ -138,17 +138,6 @@ fn random_numbers(comparison: &mut Comparison) {
     }
 }
 
-/// The tables without records, and chains: C is 0, 1, 2^n - 1 or 2^n.
-fn extreme_tables(n: u64) -> Vec<Vec<u8>> {
-    let mut extreme = vec![tables::constant(n, false), tables::constant(n, true)];
-    if n > 0 {
-        for (only_one, root_flag) in [(false, 0), (false, 1), (true, 0), (true, 1)] {
-            extreme.push(tables::chain(n, only_one, root_flag));
-        }
-    }
-    extreme.iter().map(|words| bytes_of(words)).collect()
-}
-
 /// A table and the one that permits the other setups.
 fn with_opposite(words: &[u64]) -> [Vec<u8>; 2] {
     let mut opposite = words.to_vec();
@@ -157,8 +146,8 @@ fn with_opposite(words: &[u64]) -> [Vec<u8>; 2] {
 }
 
 fn great_numbers(comparison: &mut Comparison) {
-    let mut compared = extreme_tables(62);
-    compared.extend(extreme_tables(63));
+    let extreme = [tables::extreme(62), tables::extreme(63)].concat();
+    let mut compared: Vec<Vec<u8>> = extreme.iter().map(|words| bytes_of(words)).collect();
     for n in [62, 63, 63, 63] {
         let words = tables::random_accepted(&mut comparison.rng, n, 200);
         compared.extend(with_opposite(&words));
@@ -177,22 +166,12 @@ fn great_numbers(comparison: &mut Comparison) {
 }
 
 fn part_borders(comparison: &mut Comparison) {
-    let mut compared = extreme_tables(0);
-    compared.extend(extreme_tables(17));
-    compared.extend(extreme_tables(63));
-    for _ in 0..4 {
-        compared.push(bytes_of(&tables::of_any_size(&mut comparison.rng)));
-    }
-    let great = [(1 << 32) + 1, 1 << 63, (1 << 63) + 1, u64::MAX];
-    let numbers = [&[0, 1, 2, 3, 65_534, 65_535, 65_536, 65_537], &great[..]].concat();
-    for table in compared {
-        for &k in &numbers {
-            let mut indexes = numbers.clone();
-            indexes.extend([k.wrapping_sub(1), k.wrapping_add(1)]);
-            for j in indexes {
-                comparison.compare_served(Call::SpanStart { k, j }, &table);
-                comparison.compare_served(Call::SpanSize { k, j }, &table);
-            }
+    let mut compared = [0, 17, 63].map(tables::extreme).concat();
+    compared.extend((0..4).map(|_| tables::of_any_size(&mut comparison.rng)));
+    for table in compared.iter().map(|words| bytes_of(words)) {
+        for (k, j) in border_parts() {
+            comparison.compare_served(Call::SpanStart { k, j }, &table);
+            comparison.compare_served(Call::SpanSize { k, j }, &table);
         }
     }
 }

@@ -1,9 +1,12 @@
-//! The reference itself: counts, ranks and setups, as `paper` takes them, against a brute-force
-//! reader of all setups, and the running sums of the parts against their closed form.
+//! The reference itself: counts, ranks and setups against a brute-force reader of all setups, the
+//! tables of parts against those made from truth tables, and the running sums of the parts against
+//! their closed form.
 
 use setupbook_tests::comparison::report;
 use setupbook_tests::layout::bytes_of;
-use setupbook_tests::paper::{self, Edge, Table};
+use setupbook_tests::paper;
+use setupbook_tests::part;
+use setupbook_tests::reading::{Edge, Table};
 use setupbook_tests::rng::Rng;
 use setupbook_tests::tables;
 
@@ -81,6 +84,25 @@ fn counts_and_ranks_are_those_of_brute_force() {
         }
     }
     report(&format!("brute force: {cases} tables"));
+}
+
+#[test]
+fn parts_are_those_of_truth_tables() {
+    let mut rng = Rng::new(Rng::seed_of_run());
+    for n in 0..=9 {
+        for _ in 0..20 {
+            let function = tables::random_truth_table(&mut rng, n);
+            let table = Table::read(&bytes_of(&tables::from_truth_table(&function)));
+            let counts = table.counts();
+            for _ in 0..20 {
+                let end = rng.below(table.total(&counts) as u64 + 1);
+                let start = rng.below(end + 1);
+                let part = part::of_ranks(&table, &counts, start.into()..end.into());
+                let kept = tables::with_ranks(&function, start..end);
+                assert_eq!(part, tables::from_truth_table(&kept));
+            }
+        }
+    }
 }
 
 /// The start without a running sum: j parts of q, and one more for each of the first e.

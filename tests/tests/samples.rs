@@ -1,9 +1,8 @@
 //! The paper's samples.
 
 use setupbook_tests::call::{Answer, Call, Outcome, Refusal};
-use setupbook_tests::comparison::Comparison;
+use setupbook_tests::comparison::{front, Comparison};
 use setupbook_tests::layout::{bytes_of, words_of};
-use setupbook_tests::library::Library;
 use setupbook_tests::rng::Rng;
 
 const A: [u64; 4] = [
@@ -11,6 +10,23 @@ const A: [u64; 4] = [
     0x0400000000000001,
     0x0800000040000003,
     0x0C00000080000000,
+];
+
+/// The two parts of A for k = 2.
+const HALVES_OF_A: [&[u64]; 2] = [
+    &[
+        0x0C00000060000007,
+        0x0400000000000001,
+        0x0800000040000001,
+        0x0C00000000000004,
+    ],
+    &[
+        0x0C00000080000008,
+        0x0400000000000001,
+        0x0800000040000001,
+        0x0800000040000003,
+        0x0C000000C0000004,
+    ],
 ];
 
 /// A with another header, or with another record.
@@ -42,32 +58,8 @@ fn accepted_samples() -> Vec<Sample> {
         sample(&a_with(0, 0x0C00000060000007), 3, 3, 2, &[5, 6]),
         sample(&[0x0000000000000000], 0, 0, 1, &[0]),
         sample(&[0x0C00000000000001], 3, 0, 0, &[]),
-        // The two parts of A for k = 2.
-        sample(
-            &[
-                0x0C00000060000007,
-                0x0400000000000001,
-                0x0800000040000001,
-                0x0C00000000000004,
-            ],
-            3,
-            3,
-            3,
-            &[0, 1, 2],
-        ),
-        sample(
-            &[
-                0x0C00000080000008,
-                0x0400000000000001,
-                0x0800000040000001,
-                0x0800000040000003,
-                0x0C000000C0000004,
-            ],
-            3,
-            4,
-            3,
-            &[3, 4, 7],
-        ),
+        sample(HALVES_OF_A[0], 3, 3, 3, &[0, 1, 2]),
+        sample(HALVES_OF_A[1], 3, 4, 3, &[3, 4, 7]),
     ]
 }
 
@@ -94,16 +86,13 @@ fn refused(number: u64, place: u64) -> Answer {
 
 /// Asks the library, and compares it with the reference too.
 struct Sampler {
-    library: Library,
     comparison: Comparison,
 }
 
 impl Sampler {
     fn new() -> Sampler {
-        let seed = Rng::seed_of_run();
         Sampler {
-            library: Library::new(seed),
-            comparison: Comparison::new(seed),
+            comparison: Comparison::new(Rng::seed_of_run()),
         }
     }
 
@@ -111,7 +100,7 @@ impl Sampler {
     fn ask(&mut self, call: Call, table: &[u8]) -> Outcome {
         self.comparison.compare_all(table);
         self.comparison.compare_served(call, table);
-        self.library.run(call, table, &[0xFF; 64])
+        self.comparison.compare(call, table, &[0xFF; 64], &[])
     }
 
     fn answer(&mut self, call: Call, words: &[u64]) -> Answer {
@@ -188,6 +177,38 @@ fn parts() {
     ] {
         assert_eq!(sampler.answer(Call::SpanStart { k, j }, &A), start);
         assert_eq!(sampler.answer(Call::SpanSize { k, j }, &A), size);
+    }
+}
+
+#[test]
+fn written_parts() {
+    let mut comparison = Comparison::new(Rng::seed_of_run());
+    let table = bytes_of(&A);
+    let mut write = |k, j, out_len| {
+        let (sheet, out) = ([0xFF; 8 * 526], vec![0xFF; out_len]);
+        comparison.compare(Call::PartWrite { k, j }, &table, &sheet, &out)
+    };
+    for (j, words) in (0..).zip(HALVES_OF_A) {
+        let outcome = write(2, j, 48);
+        assert_eq!(outcome.answer, Answer(8 * words.len() as u64));
+        assert_eq!(words_of(front(&outcome)), words);
+        let places = words_of(&outcome.sheet);
+        assert_eq!(places[..4], [1, 1, 2, 6]);
+        assert_eq!(places[4 * 3 + 512..], [u64::MAX; 2]);
+        let outcome = write(2, j, 8 * words.len() - 1);
+        assert_eq!(outcome.answer, refused(11, 0));
+    }
+    assert_eq!(words_of(front(&write(1, 0, 32))), A);
+    for (k, j) in [(8, 6), (8, 7), (65_535, 65_534)] {
+        assert_eq!(words_of(front(&write(k, j, 8))), [0x0C00000000000001]);
+        assert_eq!(write(k, j, 7).answer, refused(11, 0));
+    }
+    for (k, j) in [(0, 0), (2, 2), (65_536, 0)] {
+        let outcome = write(k, j, 0);
+        assert_eq!(outcome.answer, refused(15, 0));
+        let places = words_of(&outcome.sheet);
+        assert_eq!(places[..4], [1, 1, 2, 6]);
+        assert_eq!(places[4..], [u64::MAX; 522]);
     }
 }
 

@@ -1,0 +1,202 @@
+//! A table read after the paper: its records and their faults, which setups are permitted, and
+//! what the counts and ranks are. Numbers are u128 where they may grow.
+
+use crate::layout::{fields, words_of};
+
+#[derive(Clone, Copy, PartialEq, Eq)]
+pub struct Edge {
+    pub node: u64,
+    pub flag: bool,
+}
+
+#[derive(Clone, Copy)]
+pub struct Record {
+    pub height: u64,
+    pub then_edge: Edge,
+    pub else_edge: Edge,
+}
+
+/// The parts of a byte row of at least 8 bytes. `words[k]` is record k; if the length is wrong
+/// there may be more or fewer of them than `node_count` says.
+pub struct Table {
+    pub n: u64,
+    pub node_count: u64,
+    pub root: Edge,
+    pub words: Vec<u64>,
+}
+
+fn edge(value: u64) -> Edge {
+    Edge {
+        node: value / 2,
+        flag: value % 2 == 1,
+    }
+}
+
+impl Table {
+    pub fn read(bytes: &[u8]) -> Table {
+        let words = words_of(bytes);
+        let (n, node_count, root) = fields(words[0]);
+        Table {
+            n,
+            node_count,
+            root: edge(root),
+            words,
+        }
+    }
+
+    pub fn record(&self, k: u64) -> Record {
+        let (height, then_edge, else_edge) = fields(self.words[k as usize]);
+        Record {
+            height,
+            then_edge: edge(then_edge),
+            else_edge: edge(else_edge),
+        }
+    }
+
+    /// The sink has height 0.
+    pub fn height(&self, node: u64) -> u64 {
+        if node == 0 {
+            0
+        } else {
+            self.record(node).height
+        }
+    }
+
+    /// The last record: N, unless records are missing.
+    pub fn last(&self) -> u64 {
+        self.node_count.min(self.words.len() as u64 - 1)
+    }
+
+    /// Rule 6 for one edge of record k: a node not below k, or one whose height is not below the
+    /// record's.
+    fn leads_too_high(&self, k: u64, edge: Edge) -> bool {
+        edge.node >= k || self.height(edge.node) >= self.record(k).height
+    }
+
+    /// The rules of 4 to 8 that record k breaks, in the paper's order.
+    pub fn faults(&self, k: u64) -> Vec<u64> {
+        let record = self.record(k);
+        let broken = [
+            (4, record.height == 0 || record.height > self.n),
+            (
+                5,
+                k > 1 && self.words[k as usize] <= self.words[k as usize - 1],
+            ),
+            (
+                6,
+                self.leads_too_high(k, record.then_edge)
+                    || self.leads_too_high(k, record.else_edge),
+            ),
+            (7, record.then_edge.flag),
+            (8, record.then_edge == record.else_edge),
+        ];
+        broken
+            .iter()
+            .filter(|rule| rule.1)
+            .map(|rule| rule.0)
+            .collect()
+    }
+
+    /// The lowest record below `last` that no record names.
+    pub fn lowest_unnamed(&self, last: u64) -> Option<u64> {
+        let mut named = vec![false; last as usize + 1];
+        for k in 1..=last {
+            let record = self.record(k);
+            for edge in [record.then_edge, record.else_edge] {
+                if edge.node <= last {
+                    named[edge.node as usize] = true;
+                }
+            }
+        }
+        (1..last).find(|&k| !named[k as usize])
+    }
+
+    /// The number of set flags from `edge` on, for a number whose bit of weight 2^(h-1) belongs
+    /// to height h, is even.
+    pub fn permits(&self, edge: Edge, settings: u64) -> bool {
+        !self.follow(edge, settings, 0).flag
+    }
+
+    /// The edge reached from `edge` at the first node of at most the given height. Its flag is
+    /// whether the number of set flags passed is odd.
+    pub fn follow(&self, edge: Edge, settings: u64, height: u64) -> Edge {
+        let mut edge = edge;
+        while self.height(edge.node) > height {
+            let record = self.record(edge.node);
+            let bit = (settings >> (record.height - 1)) & 1;
+            let next = if bit == 1 {
+                record.then_edge
+            } else {
+                record.else_edge
+            };
+            edge = Edge {
+                node: next.node,
+                flag: edge.flag != next.flag,
+            };
+        }
+        edge
+    }
+
+    /// How many of the 2^height settings below an edge are permitted: under a flag 2^h minus the
+    /// place of its node of height h, and twice that for each setting between.
+    pub fn count_under(&self, edge: Edge, height: u64, counts: &[u128]) -> u128 {
+        let plain = counts[edge.node as usize];
+        let own = self.height(edge.node);
+        let count = if edge.flag { (1 << own) - plain } else { plain };
+        count << (height - own)
+    }
+
+    /// Places 0 to N of a table whose edges lead to smaller node numbers and heights.
+    pub fn counts(&self) -> Vec<u128> {
+        let mut counts = vec![1u128];
+        for k in 1..=self.node_count {
+            let record = self.record(k);
+            let edges = [record.then_edge, record.else_edge];
+            let count = edges
+                .map(|edge| self.count_under(edge, record.height - 1, &counts))
+                .iter()
+                .sum();
+            counts.push(count);
+        }
+        counts
+    }
+
+    /// C, from the counts.
+    pub fn total(&self, counts: &[u128]) -> u128 {
+        self.count_under(self.root, self.n, counts)
+    }
+
+    /// How many of the 2^height setups from `first` on are permitted. `first` is a multiple of
+    /// 2^height, so they agree in all settings above that height.
+    fn permitted_in_block(&self, first: u64, height: u64, counts: &[u128]) -> u128 {
+        self.count_under(self.follow(self.root, first, height), height, counts)
+    }
+
+    /// How many permitted setups are below `limit`, which is at most 2^n: the rank of `limit` if
+    /// it is permitted. Each set bit of `limit` stands for a block, the setups that have 0 there
+    /// and agree with `limit` above it.
+    pub fn permitted_below(&self, limit: u64, counts: &[u128]) -> u128 {
+        (0..=self.n)
+            .filter(|height| (limit >> height) & 1 == 1)
+            .map(|height| {
+                let first = ((limit >> height) - 1) << height;
+                self.permitted_in_block(first, height, counts)
+            })
+            .sum()
+    }
+
+    /// The permitted setup with this rank, which is below C: the smallest setup up to which more
+    /// than `rank` are permitted, found by halving.
+    pub fn setup_number(&self, rank: u64, counts: &[u128]) -> u64 {
+        let (mut low, mut high) = (0, (1 << self.n) - 1);
+        while low < high {
+            let middle = low + (high - low) / 2;
+            if self.permitted_below(middle + 1, counts) > u128::from(rank) {
+                high = middle;
+            } else {
+                low = middle + 1;
+            }
+        }
+        low
+    }
+}
