@@ -9,6 +9,7 @@ ghost use Rattle.numbering.specs.Numbered.{Finished, Keyed};
 ghost use Rattle.cutting.specs.Cut.{extended, Room};
 ghost use Rattle.emitting.specs.Written.{numberOf, Own, Emitted, Placed, Written};
 use diagram::Edge;
+use diagram::Header;
 use diagram::Node;
 use diagram::Record;
 
@@ -62,12 +63,10 @@ pub fn write_table(
         (recordOf n count (image (wordAt (now (map .entry))) (edge .value))) (now (out .exit))
         × (length (now (out .exit)) ≡ length (now (out .entry))) ⌝ }
 {
-    let header = Record {
-        height: n as u64,
-        high: Edge {
-            value: count as u64,
-        },
-        low: numbering::image_of(map, edge),
+    let header = Header {
+        settings: n as u64,
+        nodes: count,
+        root: numbering::image_of(map, edge),
     };
     words::put_word(out, 0, header.word());
     emit(table, more, map, out, n, nodes);

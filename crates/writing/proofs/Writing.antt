@@ -5,7 +5,7 @@ use mathlib.Core.Bool.{Bool, false}
 use mathlib.Core.List.{List, _++_}
 use mathlib.Core.Option.{Option, none, some}
 use lib.ListN.{length, drop}
-use Rattle.diagram.specs.Answer.{value, refusal}
+use Rattle.diagram.specs.Answer.{Answer, value, refusal}
 use Rattle.tables.specs.Table.{tableOf}
 use Rattle.tables.specs.Writing.{fitted, lengthOf, outAfter}
 use Rattle.tables.proofs.TableFor.{TableFor}
@@ -17,9 +17,9 @@ module _ (n : ℕ) (P : ℕ → Bool) (out : List ℕ) where
   unfolding lengthOf outAfter
   writes-refused number place e = record { answers = rw e; leaves = rw e }
 
-  pub writes-bytes : (bytes : List ℕ) → fitted (length out) (tableOf n P) ≡ value bytes → Writes n P out (value (length bytes)) (bytes ++ drop (length bytes) out)
+  pub writes-bytes : (bytes : List ℕ) (m : ℕ) (out′ : List ℕ) → fitted (length out) (tableOf n P) ≡ value bytes → length bytes ≡ m → out′ ≡ bytes ++ drop m out → Writes n P out (value m) out′
   unfolding lengthOf outAfter
-  writes-bytes bytes e = record { answers = rw e; leaves = rw e }
+  writes-bytes bytes m out′ e l o = record { answers = rw (e, l); leaves = rw (e, l) o }
 
 -- sets that agree have one table
 same-table : (n : ℕ) (P Q : ℕ → Bool) → ((x : ℕ) → x < 2 ^ n → P x ≡ Q x) → tableOf n P ≡ tableOf n Q
@@ -35,5 +35,5 @@ same-table n P Q same = go (tableOf n P) refl (tableOf n Q) refl
     go none e none f = e ∙ sym f
     go none e (some t) f = table Q P (λ x l. sym (same x l)) t f ∙ sym f
 
-pub writes-same : (n : ℕ) (P Q : ℕ → Bool) → ((x : ℕ) → x < 2 ^ n → P x ≡ Q x) → {out out′ : List ℕ} {answer : _} → Writes n P out answer out′ → Writes n Q out answer out′
+pub writes-same : (n : ℕ) (P Q : ℕ → Bool) → ((x : ℕ) → x < 2 ^ n → P x ≡ Q x) → {out out′ : List ℕ} {answer : Answer ℕ} → Writes n P out answer out′ → Writes n Q out answer out′
 writes-same n P Q same w = let e = same-table n P Q same in record { answers = rw (← e) (w .answers); leaves = rw (← e) (w .leaves) }
