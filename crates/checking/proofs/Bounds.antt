@@ -19,13 +19,13 @@ use Rattle.checking.specs.Operations.{checking, checkingFor, counting, t
 abbrev pub Low : ℕ → ℕ → Type 0
 Low number place = place ≤ 65535
 
-pub checking-place : (t s : List ℕ) → Refuses Low (checking t s)
+pub checking-place : (need : ℕ → ℕ) (t s : List ℕ) → Refuses Low (checkingFor need t s)
 unfolding checkingFor
-checking-place t s = check-place t (length s / 8) (λ N. N + 1)
+checking-place need t s = check-place t (length s / 8) need
 
 pub counting-place : (t s : List ℕ) → Refuses Low (counting t s)
 unfolding counting
-counting-place t s = then-refuses Low (checking t s) _ (checking-place t s) (λ _ _. passes Low (total (wordAt t)))
+counting-place t s = then-refuses Low (checking t s) _ (checking-place _ t s) (λ _ _. passes Low (total (wordAt t)))
 
 pub test-place : (x n : ℕ) (P : ℕ → Bool) → Refuses Low (testSetup x n P)
 unfolding testSetup
@@ -33,7 +33,7 @@ test-place x n P = unless Low (leb (2 ^ n) x) 12 0 (omega arith) (passes Low (P 
 
 pub testing-place : (t : List ℕ) (x : ℕ) (s : List ℕ) → Refuses Low (testing t x s)
 unfolding testing
-testing-place t x s = then-refuses Low (checking t s) _ (checking-place t s) (λ _ _. test-place x (settings (wordAt t)) (permitted (wordAt t)))
+testing-place t x s = then-refuses Low (checking t s) _ (checking-place _ t s) (λ _ _. test-place x (settings (wordAt t)) (permitted (wordAt t)))
 
 -- a header's first field has six bits
 pub settings-fit : (t : List ℕ) → ((i : ℕ) → getD t i 0 < 256) → settings (wordAt t) ≤ 63

@@ -14,4 +14,4 @@ pub spanning-place : (t : List ℕ) (k j : ℕ) (s : List ℕ) → Refuses Low (
 unfolding spanning spanOf
 spanning-place t k j s =
     let c = total (wordAt t) in
-    then-refuses Low (checking t s) _ (checking-place t s) (λ _ _. unless Low (noPart k j) 15 0 (omega arith) (passes Low (start c k j, size c k j)))
+    then-refuses Low (checking t s) _ (checking-place _ t s) (λ _ _. unless Low (noPart k j) 15 0 (omega arith) (passes Low (start c k j, size c k j)))

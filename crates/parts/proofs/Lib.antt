@@ -2,3 +2,4 @@
 pub mod Promised
 pub mod Dividing
 pub mod Extents
+pub mod Bounds

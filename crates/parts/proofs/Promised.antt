@@ -27,7 +27,7 @@ use Rattle.parts.specs.Calls.{Call, Kept}
 use Rattle.parts.specs.Division.{due}
 
 -- an answer in bytes, taken apart
-answer-value : (a : Answer (List ℕ)) (m : ℕ) → lengthOf a ≡ value m → (bytes : List ℕ) × (a ≡ value bytes) × (length bytes ≡ m)
+pub answer-value : (a : Answer (List ℕ)) (m : ℕ) → lengthOf a ≡ value m → (bytes : List ℕ) × (a ≡ value bytes) × (length bytes ≡ m)
 unfolding lengthOf
 answer-value (value b) m e = (b, refl, value-inj e)
 answer-value (refusal r p) m e = absurd (refused-not e)
@@ -38,7 +38,7 @@ answer-refusal (value b) number place e = absurd (refused-not (sym e))
 answer-refusal (refusal r p) number place e = let i : r ≡ number = cc in let j : p ≡ place = cc in rw (i, j)
 
 -- what is fitted into the room is what there was
-fitted-some : (room : ℕ) (o : Option (List ℕ)) (bytes : List ℕ) → fitted room o ≡ value bytes → o ≡ some bytes
+pub fitted-some : (room : ℕ) (o : Option (List ℕ)) (bytes : List ℕ) → fitted room o ≡ value bytes → o ≡ some bytes
 unfolding fitted
 fitted-some room none bytes e = absurd (refused-not e)
 fitted-some room (some b) bytes e = ap some (value-inj (passed (ltb room (length b)) refused-not e .1))

@@ -25,7 +25,7 @@ unfolding ranking rankSetup
 ranking-place t x s =
     let n = settings (wordAt t) in
     let P = permitted (wordAt t) in
-    then-refuses Low (checking t s) _ (checking-place t s) λ _ _.
+    then-refuses Low (checking t s) _ (checking-place _ t s) λ _ _.
     then-refuses Low (testSetup x n P) _ (test-place x n P) (λ b _. either b (countBelow P x))
   where
     either : (b : Bool) (r : ℕ) → Refuses Low (cond b (value r) (refusal 13 0))
@@ -34,7 +34,7 @@ ranking-place t x s =
 
 pub unranking-place : (t : List ℕ) (r : ℕ) (s : List ℕ) → Refuses Low (unranking t r s)
 unfolding unranking unrankSetup orTooHigh
-unranking-place t r s = then-refuses Low (checking t s) _ (checking-place t s) (λ _ _. either (select (permitted (wordAt t)) (2 ^ settings (wordAt t)) r))
+unranking-place t r s = then-refuses Low (checking t s) _ (checking-place _ t s) (λ _ _. either (select (permitted (wordAt t)) (2 ^ settings (wordAt t)) r))
   where
     either : (o : Option ℕ) → Refuses Low (orTooHigh o)
     either none = refuses Low 14 0 (omega arith)

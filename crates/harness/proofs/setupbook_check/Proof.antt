@@ -21,7 +21,7 @@ add-result c =
     omega (arith, f .0, f .1)
 
 pack-refusal-requires : tie.Need-pack-refusal-requires
-pack-refusal-requires c κs = checking-place _ _ _ _ (sym (c .before .before .before .before .before .check .ensures .0) ∙ ap checkedAs (c .before .checked2 .given .1))
+pack-refusal-requires c κs = checking-place _ _ _ _ _ (sym (c .before .before .before .before .before .check .ensures .0) ∙ ap checkedAs (c .before .checked2 .given .1))
 
 returns : tie.Need-returns
 returns c = let e = c .before .before .before .before .before .before .check .ensures in (packed-value _ _ _ (e .0) _ (ap checkedAs (c .before .before .checked .given .1)), e .1)
