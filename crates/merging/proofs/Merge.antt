@@ -11,7 +11,7 @@ use Rattle.diagram.specs.Reading.{turn}
 use Rattle.diagram.proofs.Paths.{side}
 use Rattle.diagram.proofs.Unique.{ascending}
 use Rattle.numbering.specs.Renewal.{image, renew}
-use Rattle.numbering.specs.Numbered.{Numbered}
+use Rattle.numbering.specs.Numbered.{Numbered, Keyed}
 use Rattle.numbering.proofs.Images.{normal-side, image-side, renew-node}
 use Rattle.numbering.proofs.Renumber.{closed-side, renew-high, side-lt}
 use Rattle.cutting.specs.Cut.{TwiceCut}
@@ -50,6 +50,17 @@ module _ (R : Words) (n N : ℕ) (X : TwiceCut R n N) (b : Bool) where
       go : (b : Bool) → cutNode N n b 0 < v → v ≤ cutNode N n b n → cutNode N n b (height R v) ≡ v
       go true l m = omega (arith, X .second v (omega arith) m)
       go false l m = omega (arith, X .first v (omega arith) m)
+
+  pub cut-level : (h : ℕ) → 0 < h → h ≤ n → height R (cutNode N n b h) ≡ h
+  cut-level h l m = omega (arith, cut-height (cutNode N n b h) (omega arith) (omega arith))
+
+-- there are no more records than nodes before the fronts, and they can be read off
+module _ (R W : Words) (n N c last p q r : ℕ) (X : TwiceCut R n N) (G : Merging R W n N c last p q r) where
+  pub few-records : c ≤ N + n + n
+  few-records = omega (arith, G .count, G .fronts .p-high, G .fronts .high true, G .fronts .high false)
+
+  pub merging-keyed : n ≤ 63 → N ≤ 65535 → Keyed R W n (N + n + n)
+  merging-keyed a b = record { ordered = X .ordered; closed = G .going .closed; small = λ v l. omega (arith, G .going .numbered .small v l, few-records) }
 
 module _ (R W : Words) (n N c last p q r : ℕ) (X : TwiceCut R n N) (G : Merging R W n N c last p q r) (few : c < 268435454) where
   abbrev M : ℕ

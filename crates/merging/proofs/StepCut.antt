@@ -2,7 +2,7 @@
 use Prim.Native.Nat.{ℕ, suc, _+_, _≤_, _<_}
 use mathlib.Core.Path.{_≡_, refl, sym, subst}
 use mathlib.Core.Logic.{_⊎_, inl, inr}
-use mathlib.Core.Bool.{Bool, true, false, true≢false}
+use mathlib.Core.Bool.{Bool, true, false}
 use native.Mathlib.Omega.{arith}
 use Rattle.words.proofs.Cases.{less, same, more, tri}
 use Rattle.diagram.specs.Format.{Words}
@@ -10,15 +10,9 @@ use Rattle.numbering.proofs.Assign.{Adds}
 use Rattle.numbering.proofs.Given.{Placed, placed-other, placed-count, placed-going}
 use Rattle.cutting.specs.Cut.{TwiceCut}
 use Rattle.merging.specs.Inner.{cutNode, front, Done, in-table, in-cut, Fronts, Kept, Merging, Moved}
+use Rattle.merging.proofs.Moves.{sides}
 use Rattle.merging.proofs.Merge.{cut-inside}
 use Rattle.merging.proofs.Least.{Chosen, ready, least}
-
--- the same side, or the other
-pub sides : (d b : Bool) → (d ≡ b) ⊎ (d ≡ b → ⊥)
-sides true true = inl refl
-sides false false = inl refl
-sides true false = inr true≢false
-sides false true = inr (λ e. true≢false (sym e))
 
 module _ (R W W′ : Words) (n N c last p q r c′ last′ q′ r′ : ℕ) (b : Bool) (X : TwiceCut R n N) (G : Merging R W n N c last p q r) (few : c < 268435454) (T : Moved q r q′ r′ b) (l : front q r b ≤ n) where
   abbrev v : ℕ

@@ -19,6 +19,19 @@ use Rattle.merging.specs.Inner.{front, cutNode, Done, in-table, in-cut, 
 use Rattle.merging.proofs.Merge.{high, then-even, edges-differ, ordered}
 use Rattle.merging.proofs.Least.{Chosen, ready, least}
 
+-- the table's front is a node further
+pub table-adds : (N n p q r : ℕ) → p ≤ N → Adds (Done N n p q r) (Done N n (p + 1) q r) p
+table-adds N n p q r l = record {
+  fresh = elim [ in-table a ↦ omega arith | in-cut d i j ↦ cut d i ];
+  old = λ u. elim [ in-table a ↦ in-table (omega arith) | in-cut d i j ↦ in-cut d i j ];
+  new = in-table (omega arith);
+  only = λ u. elim [ in-table a ↦ elim (tri u p) [ less s ↦ inr (in-table s) | same s ↦ inl s | more s ↦ absurd (omega arith) ] | in-cut d i j ↦ inr (in-cut d i j) ];
+}
+  where
+    cut : (d : Bool) → cutNode N n d 0 < p → ⊥
+    cut true i = omega arith
+    cut false i = omega arith
+
 module _ (R W W′ : Words) (n N c last v q r c′ last′ : ℕ) (X : TwiceCut R n N) (G : Merging R W n N c last (suc v) q r) (few : c < 268435454) (l : v < N) where
   -- the edges of a node up to v + 1 lead before it
   before : (i : ℕ) → i ≤ v → (b : Bool) → side R b (suc i) / 2 < suc v
@@ -88,22 +101,10 @@ module _ (R W W′ : Words) (n N c last v q r c′ last′ : ℕ) (X : TwiceCut 
       o : (i : ℕ) → i < suc v → W′ i ≡ W i
       o i m = U .other i (λ s. omega arith)
 
-  adds : Adds (Done N n (suc v) q r) (Done N n (suc v + 1) q r) (suc v)
-  adds = record {
-    fresh = elim [ in-table a ↦ omega arith | in-cut d i j ↦ cut d i ];
-    old = λ u. elim [ in-table a ↦ in-table (omega arith) | in-cut d i j ↦ in-cut d i j ];
-    new = in-table (omega arith);
-    only = λ u. elim [ in-table a ↦ elim (tri u (suc v)) [ less s ↦ inr (in-table s) | same s ↦ inl s | more s ↦ absurd (omega arith) ] | in-cut d i j ↦ inr (in-cut d i j) ];
-  }
-    where
-      cut : (d : Bool) → cutNode N n d 0 < suc v → ⊥
-      cut true i = omega arith
-      cut false i = omega arith
-
   next : Placed R W W′ (suc v) c last c′ last′ → (0 < W (suc v) → Chosen R W n N (suc v) q r (suc v)) → Merging R W′ n N c′ last′ (suc v + 1) q r
   next P H = record {
     fronts = record { p-low = omega arith; p-high = omega arith; low = G .fronts .low; high = G .fronts .high };
-    going = placed-going R n (N + n + n) c last (Done N n (suc v) q r) (X .ordered) few W W′ (suc v) c′ last′ (Done N n (suc v + 1) q r) (G .going) (omega arith) (omega arith) P adds
+    going = placed-going R n (N + n + n) c last (Done N n (suc v) q r) (X .ordered) few W W′ (suc v) c′ last′ (Done N n (suc v + 1) q r) (G .going) (omega arith) (omega arith) P (table-adds N n (suc v) q r l)
         (λ k. ready R W n N c last (suc v) q r X G few (suc v) (omega arith) (omega arith) (H k)) (λ k. least R W n N c last (suc v) q r X G few (suc v) (omega arith) (omega arith) (H k));
     kept = kept P;
     count = omega (arith, G .count, placed-count P);

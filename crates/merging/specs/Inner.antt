@@ -7,7 +7,7 @@ use mathlib.Core.List.{List}
 use lib.ListN.{length}
 use Rattle.words.specs.Words.{wordAt}
 use Rattle.diagram.specs.Format.{Words, highField, thenEdge, elseEdge}
-use Rattle.numbering.specs.Renewal.{renew}
+use Rattle.numbering.specs.Renewal.{renew, IsKey}
 use Rattle.numbering.specs.Numbered.{Alike, Going}
 
 -- the node of height h of a cut: the second one, or the first
@@ -51,13 +51,29 @@ pub data Beyond (R W : Words) (N n p q r h v limit : ℕ) : Type 0 where
 abbrev pub Limits : Words → Words → ℕ → ℕ → ℕ → ℕ → ℕ → ℕ → Type 0
 Limits R W n N p q r limit = (second : Bool) → front q r second ≤ n → Beyond R W N n p q r (front q r second) (cutNode N n second (front q r second)) limit
 
--- the table's nodes from p on whose new records are not above a limit are numbered: the next one, p′, is kept, and its record is above
-pub record Passed (R : Words) (map map′ : List ℕ) (n N limit c last p q r c′ last′ p′ : ℕ) : Type 0 where
-  pub merging : Merging R (wordAt map′) n N c′ last′ p′ q r
+-- v, the next node of a cut, may come next, after the table's nodes whose new records are not above its own: its edges lead to nodes that are done, and the other cut's next node is not below it
+pub record Comes (R W : Words) (n N p q r : ℕ) (second : Bool) (v : ℕ) : Type 0 where
+  pub inside : front q r second ≤ n
+  pub then-done : Done N n p q r (thenEdge R v / 2)
+  pub else-done : Done N n p q r (elseEdge R v / 2)
+  pub limit : (word flag : ℕ) → IsKey W v (R v) word flag → (other : Bool) → (other ≡ second → ⊥) → front q r other ≤ n → Beyond R W N n p q r (front q r other) (cutNode N n other (front q r other)) word
+
+-- numbering goes on, from the table's front p, to the fronts p′, q′ and r′
+pub record Reached (R : Words) (map map′ : List ℕ) (n N p c′ last′ p′ q′ r′ : ℕ) : Type 0 where
+  pub merging : Merging R (wordAt map′) n N c′ last′ p′ q′ r′
   pub ahead : p ≤ p′
-  pub others : (v : ℕ) → (v < p) ⊎ (N < v) → wordAt map′ v ≡ wordAt map v
   pub alike : Alike (wordAt map) (wordAt map′)
   pub same-length : length map′ ≡ length map
+
+-- ... over the table's nodes only, whose new records are not above a limit
+pub record Passing (R : Words) (map map′ : List ℕ) (n N limit p q r c′ last′ p′ : ℕ) : Type 0 where
+  pub reached : Reached R map map′ n N p c′ last′ p′ q r
+  pub others : (v : ℕ) → (v < p) ⊎ (N < v) → wordAt map′ v ≡ wordAt map v
+  pub limits : Limits R (wordAt map′) n N p′ q r limit
+
+-- ... over all of them: the next one is kept, and its record is above
+pub record Passed (R : Words) (map map′ : List ℕ) (n N limit p q r c′ last′ p′ : ℕ) : Type 0 where
+  pub passing : Passing R map map′ n N limit p q r c′ last′ p′
   pub above : p′ ≤ N → (0 < wordAt map′ p′) × (limit < renew (wordAt map′) (R p′))
 
 -- the front of one cut is a node further
