@@ -66,9 +66,17 @@ unfolding renew height thenEdge elseEdge
 renew-node R W v = refl
 
 -- an edge to a node whose place does not change
-pub image-same : (W W′ : Words) (k x : ℕ) → Updated W W′ k x → (e : ℕ) → (e / 2 ≡ k → ⊥) → image W′ e ≡ image W e
+pub image-as : (W W′ : Words) (e : ℕ) → W′ (e / 2) ≡ W (e / 2) → image W′ e ≡ image W e
 unfolding image
-image-same W W′ k x U e n = rw (U .other (e / 2) n)
+image-as W W′ e q = rw q
+
+pub image-same : (W W′ : Words) (k x : ℕ) → Updated W W′ k x → (e : ℕ) → (e / 2 ≡ k → ⊥) → image W′ e ≡ image W e
+image-same W W′ k x U e n = image-as W W′ e (U .other (e / 2) n)
+
+-- a record whose edges' nodes keep their places
+pub renew-as : (R W W′ : Words) (v : ℕ) → ((b : Bool) → W′ (side R b v / 2) ≡ W (side R b v / 2)) → renew W′ (R v) ≡ renew W (R v)
+unfolding renew thenEdge elseEdge
+renew-as R W W′ v s = rw (image-as W W′ (middleField (R v)) (s true), image-as W W′ (lowField (R v)) (s false))
 
 flip-twice : (f : ℕ) → (b : Bool) → flip f (flip f b) ≡ b
 unfolding flip

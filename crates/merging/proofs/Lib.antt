@@ -1,0 +1,11 @@
+-- The laws of numbering a twice-cut table.
+pub mod Order
+pub mod Moves
+pub mod Merge
+pub mod Least
+pub mod StepCut
+pub mod StepTable
+pub mod Passing
+pub mod Cuts
+pub mod Levels
+pub mod Ends

@@ -1,0 +1,29 @@
+-- The fronts of the cuts. Assumes nothing.
+use Prim.Native.Nat.{ℕ, suc, _+_}
+use mathlib.Core.Path.{_≡_, refl, sym}
+use mathlib.Core.Logic.{_⊎_, inl, inr}
+use mathlib.Core.Bool.{Bool, true, false, not, true≢false}
+use native.Mathlib.Omega.{arith}
+use Rattle.merging.specs.Inner.{front, Moved}
+
+-- the same side, or the other
+pub sides : (d b : Bool) → (d ≡ b) ⊎ (d ≡ b → ⊥)
+sides true true = inl refl
+sides false false = inl refl
+sides true false = inr true≢false
+sides false true = inr (λ e. true≢false (sym e))
+
+-- a front moves
+pub moved-second : (q r : ℕ) → Moved q r q (r + 1) true
+moved-second q r = record { here = omega arith; there = λ o n. go o n; sum = omega arith }
+  where
+    go : (o : Bool) → (o ≡ true → ⊥) → front q (r + 1) o ≡ front q r o
+    go true n = absurd (n refl)
+    go false n = refl
+
+pub moved-first : (q r : ℕ) → Moved q r (q + 1) r false
+moved-first q r = record { here = omega arith; there = λ o n. go o n; sum = omega arith }
+  where
+    go : (o : Bool) → (o ≡ false → ⊥) → front (q + 1) r o ≡ front q r o
+    go true n = refl
+    go false n = absurd (n refl)

@@ -1,0 +1,112 @@
+-- The table's nodes below a limit are numbered, in the terms of the loop that does it. Assumes nothing.
+use Prim.Native.Nat.{ℕ, suc, _+_, _*_, _/_, _≤_, _<_}
+use mathlib.Core.Path.{_≡_, refl, sym, subst, _∙_}
+use mathlib.Core.Logic.{_⊎_, inl, inr}
+use mathlib.Core.Bool.{Bool, true, false}
+use mathlib.Core.List.{List}
+use native.Mathlib.Omega.{arith}
+use native.Mathlib.Nat.{le-refl}
+use lib.ListN.{length}
+use Rattle.words.specs.Words.{wordAt}
+use Rattle.words.proofs.Cases.{less, same, more, tri}
+use Rattle.diagram.specs.Format.{Words, highField, height, thenEdge, elseEdge}
+use Rattle.diagram.proofs.Paths.{side}
+use Rattle.numbering.specs.Renewal.{renew, IsKey, Gave}
+use Rattle.numbering.specs.Numbered.{Alike}
+use Rattle.numbering.proofs.Images.{renew-as}
+use Rattle.numbering.proofs.Finish.{alike-same, alike-trans}
+use Rattle.numbering.proofs.Given.{Placed, placed-alike, placed-other, gave-length, gave-placed}
+use Rattle.cutting.specs.Cut.{TwiceCut}
+use Rattle.merging.specs.Inner.{cutNode, front, Done, Merging, Beyond, higher, level, Limits, Passing, Passed}
+use Rattle.merging.proofs.Merge.{cut-inside, cut-level, few-records, high}
+use Rattle.merging.proofs.Least.{Chosen}
+use Rattle.merging.proofs.StepTable.{table-adds, step-table}
+
+-- before the first turn
+pub turn-first : (R : Words) (map : List ℕ) (n N limit q r c last p : ℕ) → Merging R (wordAt map) n N c last p q r → Limits R (wordAt map) n N p q r limit → Passing R map map n N limit p q r c last p
+turn-first R map n N limit q r c last p G L = record {
+  reached = record { merging = G; ahead = le-refl p; alike = alike-same (wordAt map); same-length = refl };
+  others = λ v o. refl;
+  limits = L;
+}
+
+-- a key says whether its node is kept
+pub key-live : (W : Words) (v z word flag : ℕ) → IsKey W v z word flag → 0 < word → (0 < W v) × (word ≡ renew W z)
+key-live W v z word flag K l = elim (tri 0 (W v)) [ less k ↦ (k, K .word-is k) | same k ↦ absurd (omega (arith, K .dead (sym k))) | more k ↦ absurd (omega arith) ]
+
+-- the new record of a cut's next node is not below a limit
+module _ (R W : Words) (n N c last p q r : ℕ) (X : TwiceCut R n N) (G : Merging R W n N c last p q r) (few : c < 268435454) (b : Bool) (l : front q r b ≤ n) (limit : ℕ) where
+  abbrev v : ℕ
+  v = cutNode N n b (front q r b)
+
+  pub beyond-limit : Beyond R W N n p q r (front q r b) v limit → (highField limit ≤ front q r b) × (0 < W v → limit ≤ renew W (R v))
+  beyond-limit (higher m) =
+      let f = G .fronts .low b in
+      let i = cut-inside R n N X b (front q r b) l in
+      let h = high R W n N c last p q r X G few v (omega arith) (i .1) in
+      let e = cut-level R n N X b (front q r b) f l in
+      (omega arith, λ k. unfold highField in omega arith)
+  beyond-limit (level m d e f) = (m, f)
+
+  -- ... and stays so while a node of the table is numbered
+  pub beyond-stays : (W′ : Words) (c′ last′ : ℕ) → p ≤ N → Placed R W W′ p c last c′ last′ → Beyond R W N n p q r (front q r b) v limit → Beyond R W′ N n (p + 1) q r (front q r b) v limit
+  beyond-stays W′ c′ last′ m P (higher i) = higher i
+  beyond-stays W′ c′ last′ m P (level i d e f) =
+      level i (table-adds N n p q r m .old (thenEdge R v / 2) d) (table-adds N n p q r m .old (elseEdge R v / 2) e)
+      (λ k. rw (renew-as R W W′ v stays) (f (rw own at k)))
+    where
+      own : W′ v ≡ W v
+      own = placed-other P v (λ s. omega (arith, cut-inside R n N X b (front q r b) l .0, G .fronts .low b))
+
+      still : (u : ℕ) → Done N n p q r u → W′ u ≡ W u
+      still u o = placed-other P u (λ s. table-adds N n p q r m .fresh (subst (λ (a : ℕ). Done N n p q r a) s o))
+
+      stays : (s : Bool) → W′ (side R s v / 2) ≡ W (side R s v / 2)
+      stays true = still (thenEdge R v / 2) d
+      stays false = still (elseEdge R v / 2) e
+
+-- a turn: node p, of record z, becomes `word`
+module _ (R : Words) (map₀ map : List ℕ) (n N limit p₀ q r c last p z word flag : ℕ) (X : TwiceCut R n N) (T : Passing R map₀ map n N limit p₀ q r c last p)
+    (settings : n ≤ 63) (nodes : N ≤ 65535) (l : p ≤ N) (z-is : z ≡ R p) (key : IsKey (wordAt map) p z word flag) where
+  abbrev W : Words
+  W = wordAt map
+
+  G : Merging R W n N c last p q r
+  G = T .reached .merging
+
+  few : c < 268435454
+  few = omega (arith, few-records R W n N c last p q r X G)
+
+  K : IsKey W p (R p) word flag
+  K = subst (λ (a : ℕ). IsKey W p a word flag) z-is key
+
+  -- above the limit: the table's nodes that are not are numbered
+  pub turn-last : limit < word → Passed R map₀ map n N limit p₀ q r c last p
+  turn-last m = let k = key-live W p (R p) word flag K (omega arith) in record { passing = T; above = λ i. (k .0, omega (arith, k .1)) }
+
+  chosen : word ≤ limit → 0 < W p → Chosen R W n N p q r p
+  chosen m k = record {
+    by-table = λ i. (k, le-refl (renew W (R p)));
+    by-cut = λ b i. let t = beyond-limit R W n N c last p q r X G few b i limit (T .limits b i) in
+        let h = high R W n N c last p q r X G few p (G .fronts .p-low) (omega arith) in
+        let w = K .word-is k in
+        (unfold highField in omega (arith, t .0), λ o. omega (arith, t .1 o));
+  }
+
+  pub turn-next : (map′ : List ℕ) (c′ last′ : ℕ) → 8 * p + 8 ≤ length map → word ≤ limit → Gave map map′ p word flag c last c′ last′ → Passing R map₀ map′ n N limit p₀ q r c′ last′ (p + 1)
+  turn-next map′ c′ last′ long m g =
+      let P = gave-placed R n (N + n + n) c last (Done N n p q r) (X .ordered) few map map′ p word flag c′ last′ (G .going) (G .fronts .p-low) (omega arith) long K g in
+      record {
+        reached = record {
+          merging = step-table R W (wordAt map′) n N c last p q r c′ last′ X G few l P (chosen m);
+          ahead = omega (arith, T .reached .ahead);
+          alike = alike-trans (wordAt map₀) W (wordAt map′) (T .reached .alike) (placed-alike P);
+          same-length = gave-length map map′ p word flag c last c′ last′ long g ∙ T .reached .same-length;
+        };
+        others = λ v o. placed-other P v (λ e. elim o [ inl a ↦ omega (arith, T .reached .ahead) | inr a ↦ omega arith ]) ∙ T .others v o;
+        limits = λ b i. beyond-stays R W n N c last p q r X G few b i limit (wordAt map′) c′ last′ l P (T .limits b i);
+      }
+
+-- behind the table's last node
+pub turn-end : (R : Words) (map₀ map : List ℕ) (n N limit p₀ q r c last p : ℕ) → Passing R map₀ map n N limit p₀ q r c last p → N < p → Passed R map₀ map n N limit p₀ q r c last p
+turn-end R map₀ map n N limit p₀ q r c last p T l = record { passing = T; above = λ i. absurd (omega arith) }
