@@ -7,3 +7,4 @@ pub mod Assign
 pub mod Going
 pub mod Finish
 pub mod Keys
+pub mod Given

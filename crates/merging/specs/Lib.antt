@@ -1,0 +1,2 @@
+-- What holds while a twice-cut table is numbered anew.
+pub mod Inner

@@ -1,0 +1,1 @@
+// A twice-cut table numbered anew.
