@@ -49,7 +49,7 @@ record-sides w B n bound side r h = let q : suc h - 1 ≡ h = omega arith in rw 
 
 -- where the edges lead
 module _ (w : Words) (n B : ℕ) (D : Ordered w n B) (bound r : ℕ) (inside : r / 2 ≤ B) where
-  pub follow-low : (d : ℕ) → d ≤ n → (follow w n bound r d / 2 ≤ B) × (height w (follow w n bound r d / 2) ≤ n - d)
+  follow-low : (d : ℕ) → d ≤ n → (follow w n bound r d / 2 ≤ B) × (height w (follow w n bound r d / 2) ≤ n - d)
   unfolding follow
   follow-low zero l = (inside, omega (arith, height-le-settings w n B D (r / 2) inside))
   follow-low (suc d) l =

@@ -12,6 +12,11 @@ use Rattle.numbering.specs.Renewal.{image, renew, Renewable, IsKey}
 use Rattle.numbering.proofs.Images.{turn-inj, normal-side, image-small}
 use Rattle.emitting.specs.Written.{numberOf, Own, Emitted, quiet, wrote}
 
+-- node v's place holds m, which is 1 + an edge to node i
+pub number-is : (map : List ℕ) (v m i : ℕ) → m ≡ wordAt map v → i ≡ (m - 1) / 2 → i ≡ numberOf (wordAt map) v
+unfolding numberOf
+number-is map v m i m-is i-is = i-is ∙ ap (λ (x : ℕ). (x - 1) / 2) m-is
+
 -- node v, of record z, becomes a word of fields h, t and e
 module _ (map : List ℕ) (v z word flag h t e : ℕ) (N : Renewable map v z) (K : IsKey (wordAt map) v z word flag) (F : HasFields word h t e) where
   abbrev W : Words
@@ -38,7 +43,7 @@ module _ (map : List ℕ) (v z word flag h t e : ℕ) (N : Renewable map v z) (K
   unfolding renew
   low-is l = F .low-is ∙ ap lowField (K .word-is l) ∙ normal-side (highField z) a b a-small b-small false
 
-  pub own-not : t ≡ e → Own W v z → ⊥
+  own-not : t ≡ e → Own W v z → ⊥
   own-not q O = O .apart (turn-inj (a % 2) a b (sym (high-is (O .live)) ∙ q ∙ low-is (O .live)))
 
   -- the fields of 0 are equal
@@ -55,13 +60,8 @@ module _ (map : List ℕ) (v z word flag h t e : ℕ) (N : Renewable map v z) (K
   pub emit-quiet : (out : List ℕ) → t ≡ e → Emitted W out out v z
   emit-quiet out q = quiet (own-not q) refl
 
-  -- place m of the map holds 1 + the edge p, to node i
-  pub number-is : (m i : ℕ) → m ≡ W v → i ≡ (m - 1) / 2 → i ≡ numberOf W v
-  unfolding numberOf
-  number-is m i m-is i-is = i-is ∙ ap (λ (x : ℕ). (x - 1) / 2) m-is
-
   pub emit-wrote : (n : t ≡ e → ⊥) (out out′ : List ℕ) (m i : ℕ) → m ≡ W v → i ≡ (m - 1) / 2 → word < 18446744073709551616 → out′ ≡ putWord out i word → Emitted W out out′ v z
   emit-wrote n out out′ m i m-is i-is s q =
       let O = own-is n in
       let w = K .word-is (O .live) in
-      wrote O (rw (← w) s) (q ∙ ap₂ (putWord out) (number-is m i m-is i-is) w)
+      wrote O (rw (← w) s) (q ∙ ap₂ (putWord out) (number-is map v m i m-is i-is) w)

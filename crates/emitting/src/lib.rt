@@ -18,15 +18,13 @@ fn emit_one(map: &[u8], out: &mut [u8], v: Node, word: u64)
     requires { ⌜ Renewable (now map) (v .0) word × (Own (wordAt (now map)) (v .0) word → 8 * numberOf (wordAt (now map)) (v .0) + 8 ≤ length (now out)) ⌝ }
     ensures { λ _. ⌜ Emitted (wordAt (now (map .entry))) (now (out .entry)) (now (out .exit)) (v .0) word ⌝ }
 {
-    let i = v.0;
     let key = numbering::key_of(map, v, word);
     let fields = Record::of(key.word);
     if fields.high.value == fields.low.value {
         return;
     }
-    let plain = Edge {
-        value: words::word_at(map, i) - 1,
-    };
+    let place = words::word_at(map, v.0);
+    let plain = Edge { value: place - 1 };
     words::put_word(out, plain.node().0, key.word);
 }
 

@@ -1,6 +1,8 @@
 -- `cutting::cut_step` meets its contract. Assumes nothing.
 use native.Mathlib.Omega.{arith}
 use borrow.Author.Needs.{needs}
+use Rattle.words.specs.Words.{wordAt}
+use Rattle.cutting.specs.Cut.{extended}
 use Rattle.cutting.proofs.Steps.{step-small, step-is}
 use Rattle.cutting.proofs.cut_step.Statement.{statement}
 use Rattle.cutting.proofs.cut_step.Tie as tie
@@ -18,7 +20,8 @@ returns : tie.Need-returns
 returns c =
     let a = c .before .before .before .before in
     let q = a .before .cofactors-in .ensures in
-    step-is _ _ _ _ _ _ _ (a .before .before .has-setting .ensures) _ _ (q .0) (q .1) _ _ (a .at .ensures) (c .before .before .before .at2 .ensures) _ _ (c .before .inner-edge .ensures) (c .before .before .outer-edge .ensures)
+    let b = a .before .before .before .before .args in
+    step-is (extended (wordAt (b .table .now)) (b .nodes) (b .more .now)) _ _ _ _ _ _ (a .before .before .has-setting .ensures) _ _ (q .0) (q .1) _ _ (a .at .ensures) (c .before .before .before .at2 .ensures) _ _ (c .before .inner-edge .ensures) (c .before .before .outer-edge .ensures)
     (a .before .before .before .before .pre .4) _ (c .cut-word .ensures)
 
 pub cut-step-spec : {M : Type 1} → statement M

@@ -10,8 +10,8 @@ returns c =
     let f = c .before .before in
     emit-quiet _ _ _ _ _ _ _ _ (f .before .before .before .before .pre .0) (f .before .key-of .ensures) (f .of .ensures) _ (c .if1 .taken)
 
-sub-t11 : tie.Need-sub-t11
-sub-t11 c =
+sub-t10 : tie.Need-sub-t10
+sub-t10 c =
     let f = c .before .before .before in
     let o = own-is _ _ _ _ _ _ _ _ (f .before .before .before .before .pre .0) (f .before .key-of .ensures) (f .of .ensures) (c .before .if1 .left) in
     omega (arith, o .live, c .word-at .ensures)
@@ -21,9 +21,8 @@ put-word-requires c κs =
     let w = c .before .before in
     let f = w .before .before .before in
     let p = f .before .before .before .before .pre in
-    let k = f .before .key-of .ensures in
-    let o = own-is _ _ _ _ _ _ _ _ (p .0) k (f .of .ensures) (w .before .if1 .left) in
-    omega (arith, p .1 o, number-is _ _ _ _ _ _ _ _ (p .0) k (f .of .ensures) _ _ (w .word-at .ensures) (c .node .ensures))
+    let o = own-is _ _ _ _ _ _ _ _ (p .0) (f .before .key-of .ensures) (f .of .ensures) (w .before .if1 .left) in
+    omega (arith, p .1 o, number-is _ _ _ _ (w .word-at .ensures) (c .node .ensures))
 
 returns-2 : tie.Need-returns-2
 returns-2 c =
@@ -37,4 +36,4 @@ returns-2 c =
 pub emit-one-spec : {M : Type 1} → statement M
 emit-one-spec =
     tie.close
-    (tie.spec (λ c κs. search needs) (λ c κs. search needs) returns (λ c κs. search needs) sub-t11 (λ c κs. search needs) put-word-requires (λ c. search needs) returns-2)
+    (tie.spec (λ c κs. search needs) (λ c κs. search needs) returns (λ c κs. search needs) sub-t10 (λ c κs. search needs) put-word-requires (λ c. search needs) returns-2)
