@@ -70,7 +70,7 @@ fn random_functions(comparison: &mut Comparison) {
 
 /// Few parts, all of them, and single parts of random divisions, in memories of any length.
 fn accepted(comparison: &mut Comparison) {
-    for _ in 0..1600 {
+    for _ in 0..2000 {
         let table = bytes_of(&tables::of_any_size(&mut comparison.rng));
         let k = comparison.rng.between(2, 9);
         for j in 0..k {
