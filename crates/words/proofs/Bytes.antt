@@ -5,7 +5,7 @@ use mathlib.Core.List.{List, [], _++_, append-nil}
 use native.Mathlib.Omega.{arith}
 use native.Mathlib.Nat.{mod-lt, mod-eq-of-lt, div-one, zero-add}
 use lib.Dec.{lit<}
-use lib.ListN.{length, getD, List·getD-append}
+use lib.ListN.{length, getD, List·getD-append, List·getD-eq-default}
 use lib.Seq.{ext-getD, getD-append-add}
 use Rattle.words.specs.Words.{beAt, wordAt, bytesOf, wordsBytes}
 use Rattle.words.proofs.Cases.{less, same, more, tri}
@@ -77,3 +77,14 @@ bytes-words f (suc m) i = bytes-append (wordsBytes f m) (bytesOf 8 (f m)) (bytes
 
 pub word-of-run : (f : ℕ → ℕ) (m k : ℕ) → k < m → f k < 2 ^ 64 → wordAt (wordsBytes f m) k ≡ f k
 word-of-run f m k l b = ap (λ (s : List ℕ). wordAt s k) (sym (append-nil (wordsBytes f m))) ∙ words-at f m [] k l b
+
+-- the beginning of bytes is bytes
+pub bytes-front : (a b : List ℕ) → Bytes (a ++ b) → Bytes a
+bytes-front a b p i = elim (tri i (length a)) [
+  | less l ↦ rw (← (List·getD-append a b 0 i l)) (p i)
+  | same l ↦ late (omega arith)
+  | more l ↦ late (omega arith)
+]
+  where
+    late : length a ≤ i → getD a i 0 < 256
+    late l = rw (List·getD-eq-default a 0 l) (omega arith)

@@ -2,3 +2,4 @@
 pub mod Builds
 pub mod Writing
 pub mod Nothing
+pub mod Outcomes

@@ -1,43 +1,69 @@
+-- `writing::build` meets its contract. Assumes nothing.
+use native.Mathlib.Omega.{arith}
 use borrow.Author.Needs.{needs}
+use Rattle.words.specs.Words.{wordAt}
+use Rattle.marking.proofs.Marking.{room-same}
+use Rattle.writing.proofs.Builds.{none-ordered, first-ordered, first-inside, twice-cut, second-inside, built}
 use Rattle.writing.proofs.build.Statement.{statement}
 use Rattle.writing.proofs.build.Tie as tie
-use Rattle.writing.proofs.build.Reads as reads
-use Rattle.writing.proofs.build.Lts as lts
-use Rattle.cutting.proofs.add_cut.Reads as add-cut-reads
-use Rattle.marking.proofs.mark.Reads as mark-reads
-use Rattle.merging.proofs.number.Reads as number-reads
 
--- src/lib.rt:46:9
 add-cut-requires : tie.Need-add-cut-requires
-add-cut-requires c κs = ?
+add-cut-requires c κs =
+    let p = c .before .before .before .pre in
+    let r = p .0 in
+    (r .table-long, none-ordered _ _ _ (p .1) (r .few-settings) (r .few-nodes) _ (p .2) _, omega (arith, p .2), r .few-settings, omega arith, r .few-nodes, p .5)
 
--- src/lib.rt:47:9
 add-cut-requires-2 : tie.Need-add-cut-requires-2
-add-cut-requires-2 c κs = ?
+add-cut-requires-2 c κs =
+    let b = c .before .before .before .before .before in
+    let p = b .pre in
+    let r = p .0 in
+    let w = wordAt (b .args .table .now) in
+    let k = c .before .add-cut .ensures in (
+      r .table-long,
+      first-ordered w _ _ (p .1) (r .few-settings) (r .few-nodes) _ (p .2) _ _ w _ 0 _ 0 (k .0) (k .1),
+      first-inside w _ _ (p .1) (r .few-settings) (r .few-nodes) _ (p .2) _ _ w _ 0 _ 0 (k .0) (k .1),
+      r .few-settings,
+      r .few-settings,
+      r .few-nodes,
+      k .2,
+    )
 
--- src/lib.rt:48:5
 mark-requires : tie.Need-mark-requires
-mark-requires c κs = ?
+mark-requires c κs =
+    let p = c .before .before .before .before .before .before .before .before .pre in
+    let r = p .0 in
+    let k = c .before .before .before .before .add-cut .ensures in
+    let m = c .before .before .add-cut2 .ensures in (
+      r,
+      twice-cut _ _ _ (p .1) (r .few-settings) (r .few-nodes) _ (p .2) _ _ _ _ _ _ _ (k .0) (k .1) (m .0) (m .1) .ordered,
+      second-inside _ _ _ (p .1) (r .few-settings) (r .few-nodes) _ (p .2) _ _ _ _ _ _ _ (k .0) (k .1) (m .0) (m .1),
+    )
 
--- src/lib.rt:49:9
 number-requires : tie.Need-number-requires
-number-requires c κs = ?
+number-requires c κs =
+    let p = c .before .before .before .before .before .before .before .before .before .before .before .before .before .pre in
+    let r = p .0 in
+    let k = c .before .before .before .before .before .before .before .before .before .add-cut .ensures in
+    let m = c .before .before .before .before .before .before .before .add-cut2 .ensures in
+    let q = c .before .before .before .before .mark .ensures in (
+      room-same _ _ _ _ _ (q .1) r,
+      twice-cut _ _ _ (p .1) (r .few-settings) (r .few-nodes) _ (p .2) _ _ _ _ _ _ _ (k .0) (k .1) (m .0) (m .1),
+      q .0,
+      second-inside _ _ _ (p .1) (r .few-settings) (r .few-nodes) _ (p .2) _ _ _ _ _ _ _ (k .0) (k .1) (m .0) (m .1),
+    )
 
--- src/lib.rt:30:1
-same-length : tie.Need-same-length
-same-length c = search needs
-
--- src/lib.rt:30:1
 returns : tie.Need-returns
-returns c = ?
+returns c =
+    let p = c .before .before .before .before .before .before .before .before .before .before .before .before .before .before .before .before .pre in
+    let r = p .0 in
+    let k = c .before .before .before .before .before .before .before .before .before .before .before .before .add-cut .ensures in
+    let m = c .before .before .before .before .before .before .before .before .before .before .add-cut2 .ensures in
+    let q = c .before .before .before .before .before .before .before .mark .ensures in
+    let e = c .before .before .number .ensures in (
+      built _ _ _ (p .1) (r .few-settings) (r .few-nodes) _ (p .2) _ _ _ _ _ _ _ (k .0) (k .1) (m .0) (m .1) (p .3) (p .4) _ _ _ (q .0) (e .1) (e .0) (e .2),
+      omega (arith, q .1, e .3),
+    )
 
 pub build-spec : {M : Type 1} → statement M
-build-spec =
-    tie.close
-    (tie.spec
-    add-cut-requires
-    add-cut-requires-2
-    mark-requires
-    number-requires
-    same-length
-    returns)
+build-spec = tie.close (tie.spec add-cut-requires add-cut-requires-2 mark-requires number-requires (λ c. search needs) returns)

@@ -1,77 +1,42 @@
+-- `writing::write_between` meets its contract. Assumes nothing.
+use Prim.Native.Nat.{_+_, _*_}
+use mathlib.Core.Path.{_≡_, refl, sym, _∙_}
+use native.Mathlib.Omega.{arith}
 use borrow.Author.Needs.{needs}
+use lib.ListN.{length, take, drop}
+use lib.Seq.{length-take-le}
+use Rattle.words.proofs.Bytes.{bytes-front}
+use Rattle.marking.proofs.Marking.{room-same}
+use Rattle.writing.proofs.Outcomes.{too-many, no-room, wrote}
 use Rattle.writing.proofs.write_between.Statement.{statement}
 use Rattle.writing.proofs.write_between.Tie as tie
-use Rattle.writing.proofs.write_between.Reads as reads
-use Rattle.writing.proofs.write_between.Lts as lts
-use Rattle.emitting.proofs.write_table.Reads as write-table-reads
-use Rattle.writing.proofs.build.Reads as build-reads
 
--- src/lib.rt:68:9
-build-requires : tie.Need-build-requires
-build-requires c κs = search needs
-
--- src/lib.rt:70:9
-same-length : tie.Need-same-length
-same-length c = search needs
-
--- src/lib.rt:70:9
 returns : tie.Need-returns
-returns c = ?
+returns c = too-many _ _ _ _ _ _ _ _ _ _ (c .before .before .before .before .build .ensures .0) _ (c .if1 .taken)
 
--- src/lib.rt:73:20
-add-end : tie.Need-add-end
-add-end c = search needs
-
--- src/lib.rt:73:15
-mul-end : tie.Need-mul-end
-mul-end c = search needs
-
--- src/lib.rt:75:9
-same-length-2 : tie.Need-same-length-2
-same-length-2 c = search needs
-
--- src/lib.rt:75:9
 returns-2 : tie.Need-returns-2
-returns-2 c = ?
+returns-2 c = no-room _ _ _ _ _ _ _ _ _ _ (c .before .before .before .before .before .build .ensures .0) _ (c .before .if1 .left) (c .before .before .before .before .before .before .before .before .before .before .before .pre .0 .few-settings) (c .if2 .taken)
 
--- src/lib.rt:77:46
-slice-relend-prefix-write-table : tie.Need-slice-relend-prefix-write-table
-slice-relend-prefix-write-table c = search needs
-
--- src/lib.rt:77:46
 slice-aggregate-write-table : tie.Need-slice-aggregate-write-table
-slice-aggregate-write-table c = ?
+slice-aggregate-write-table c = sym (length-take-le (8 * (c .before .before .before .before .before .before .before .before .build .result .records + 1)) (c .before .before .before .before .before .before .before .before .before .before .before .before .before .before .args .out .now) (c .before .before .before .if2 .left))
 
--- src/lib.rt:77:5
 write-table-requires : tie.Need-write-table-requires
-write-table-requires c κs = ?
+write-table-requires c κs =
+    let p = c .before .before .before .before .before .before .before .before .before .before .before .before .before .before .pre in
+    let e = c .before .before .before .before .before .before .before .before .build .ensures in
+    let l = length-take-le (8 * (c .before .before .before .before .before .before .before .before .build .result .records + 1)) (c .before .before .before .before .before .before .before .before .before .before .before .before .before .before .args .out .now) (c .before .before .before .if2 .left) in
+    (room-same _ _ _ _ _ (e .1) (p .0), e .0 .keyed, e .0 .finished, omega (arith, l), omega (arith, c .before .before .before .before .if1 .left), e .0 .inside, e .0 .top)
 
--- src/lib.rt:54:1
-same-length-3 : tie.Need-same-length-3
-same-length-3 c = search needs
-
--- src/lib.rt:54:1
-same-length-4 : tie.Need-same-length-4
-same-length-4 c = search needs
-
--- src/lib.rt:54:1
 returns-3 : tie.Need-returns-3
-returns-3 c = ?
+returns-3 c =
+    let m = 8 * (c .before .before .before .before .before .before .before .before .before .before .before .build .result .records + 1) in
+    let l = length-take-le m (c .before .before .before .before .before .before .before .before .before .before .before .before .before .before .before .before .before .args .out .now) (c .before .before .before .before .before .before .if2 .left) in
+    let g = c .before .before .write-table in
+    wrote _ _ _ _ _ _ _ _ _ _ (c .before .before .before .before .before .before .before .before .before .before .before .build .ensures .0) _ (c .before .before .before .before .before .before .before .if1 .left) (g .last .1 .1 .1 .0) _ (bytes-front (g .last .1 .1 .1 .0) (drop m (c .before .before .before .before .before .before .before .before .before .before .before .before .before .before .before .before .before .args .out .now)) (λ i. omega (arith, c .slice-known4 .given i))) (g .ensures .1 ∙ l) (c .before .before .before .before .before .before .if2 .left) (g .ensures .0) refl
 
 pub write-between-spec : {M : Type 1} → statement M
 write-between-spec =
     tie.close
     (tie.spec
-    build-requires
-    same-length
-    returns
-    add-end
-    mul-end
-    same-length-2
-    returns-2
-    slice-relend-prefix-write-table
-    slice-aggregate-write-table
-    write-table-requires
-    same-length-3
-    same-length-4
-    returns-3)
+    (λ c κs. search needs) (λ c. search needs) returns (λ c. search needs) (λ c. search needs) (λ c. search needs) returns-2 (λ c. search needs)
+    slice-aggregate-write-table write-table-requires (λ c. search needs) (λ c. search needs) returns-3)
