@@ -12,7 +12,7 @@ use Rattle.diagram.specs.Format.{Words, settings}
 use Rattle.diagram.specs.Meaning.{under, permitted}
 use Rattle.diagram.specs.Count.{countBelow, place, total}
 use Rattle.diagram.specs.Answer.{Answer, value, refusal, andThen}
-use Rattle.diagram.specs.Ordered.{HasDiagram, Accepted}
+use Rattle.diagram.specs.Ordered.{Reduced, HasDiagram, Accepted}
 use Rattle.diagram.specs.Reading.{IsHeader, Within}
 use Rattle.diagram.proofs.Paths.{height-le-settings}
 use Rattle.diagram.proofs.Accept.{check-accepted}
@@ -70,7 +70,10 @@ module _ (need : ℕ → ℕ) (some : (N : ℕ) → N + 1 ≤ need N) (t s out :
             ordered = rw (← settings-is, ← nodes-is) (A .proper .reduced .ordered);
           }
 
-      root-inside : e / 2 ≤ N
+      pub table-reduced : Reduced w n N
+      table-reduced = rw (← settings-is, ← nodes-is) (accepted .0 .proper .reduced)
+
+      pub root-inside : e / 2 ≤ N
       root-inside = omega (arith, ap (λ (r : ℕ). r / 2) (h .root-is), accepted .0 .root-node, nodes-is)
 
       pub root-within : Within t (e / 2)
@@ -82,6 +85,10 @@ module _ (need : ℕ → ℕ) (some : (N : ℕ) → N + 1 ≤ need N) (t s out :
       filled : out ≡ wordsOver (place w) (N + 1) s
       unfolding sheetAfterFor sheetBy
       filled = is .1 ∙ rw (checking-is, h .nodes-is)
+
+      -- the sheet has the places that are needed
+      pub places-lent : 8 * need N ≤ length out
+      places-lent = omega (arith, accepted .1, ap need nodes-is, ap length filled, length-wordsOver (place w) (N + 1) s room)
 
       -- the places up to the root's hold the counts
       holds-place : (k : ℕ) → k ≤ N → wordAt out k ≡ place w k

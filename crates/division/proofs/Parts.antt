@@ -1,17 +1,15 @@
 -- The parts share the setups out: each setup is in one part, and a part's setups are numbered as in the whole. Assumes nothing.
-use Prim.Native.Nat.{ℕ, zero, suc, _+_, _-_, _^_, _≤_, _<_}
-use mathlib.Core.Path.{_≡_, refl, sym, _∙_}
-use mathlib.Core.Bool.{Bool, true, false, _&&_}
-use mathlib.Core.Option.{some}
+use Prim.Native.Nat.{ℕ, zero, suc, _+_, _^_, _≤_, _<_}
+use mathlib.Core.Path.{_≡_, sym, _∙_}
+use mathlib.Core.Bool.{Bool, true}
 use native.Mathlib.Omega.{arith}
-use lib.Dec.{leb}
 use Rattle.words.proofs.Cases.{Tri, less, same, more, tri}
 use Rattle.diagram.specs.Count.{countBelow, select}
 use Rattle.diagram.proofs.CountLaws.{count-mono-lt}
-use Rattle.diagram.proofs.Select.{select-some, select-of, ranked}
+use Rattle.diagram.proofs.Select.{select-of, ranked}
 use Rattle.division.specs.Span.{size, start, inPart}
 use Rattle.division.proofs.SpanLaws.{start-zero, start-next, start-end, start-mono}
-use Rattle.division.proofs.Within.{within-ranked, ranked-within, within-count, within-selected, within-bounds}
+use Rattle.division.proofs.Within.{within-ranked, ranked-within, within-count, within-selected}
 
 -- rank r of c is in part j of k
 pub record Spans (c k j r : ℕ) : Type 0 where
@@ -81,19 +79,3 @@ module _ (k n : ℕ) (P : ℕ → Bool) where
   part-setup j r l q =
       let x = ranked P (2 ^ n) (start c k j + r) (omega (arith, part-inside c k j l)) in
       select-of (inPart k j n P) (2 ^ n) r (x .0) (within-selected P (start c k j) (size c k j) (2 ^ n) r (x .0) q (x .1)) ∙ sym (select-of P (2 ^ n) (start c k j + r) (x .0) (x .1))
-
-  -- its setups are the permitted ones from its first, lo, to its last, hi
-  pub part-bounds : (j lo hi : ℕ) → 0 < size c k j → select P (2 ^ n) (start c k j) ≡ some lo → select P (2 ^ n) (start c k j + size c k j - 1) ≡ some hi
-      → (x : ℕ) → inPart k j n P x ≡ (P x && leb lo x && leb x hi)
-  unfolding inPart
-  part-bounds j lo hi l e f x =
-      within-bounds P (start c k j) (size c k j) (2 ^ n) lo hi (select-some P (2 ^ n) (start c k j) lo e) (select-some P (2 ^ n) (start c k j + size c k j - 1) hi f) l x
-
-  -- a part of size 0 has none
-  pub part-empty : (j : ℕ) → size c k j ≡ 0 → (x : ℕ) → inPart k j n P x ≡ false
-  unfolding inPart
-  part-empty j z x = go (inPart k j n P x) refl
-    where
-      go : (b : Bool) → inPart k j n P x ≡ b → b ≡ false
-      go true e = let a = within-ranked P (start c k j) (size c k j) x e in absurd (omega arith)
-      go false e = refl

@@ -30,6 +30,14 @@ module _ (P : ℕ → Bool) (b z : ℕ) where
   unfolding within
   ranked-within x r = rw (r .passes, le-leb b (countBelow P x) (r .from), lt-ltb (countBelow P x) (b + z) (r .upto))
 
+  -- there is none if z is 0
+  pub within-none : z ≡ 0 → (x : ℕ) → within P b z x ≡ false
+  within-none e x = go (within P b z x) refl
+    where
+      go : (c : Bool) → within P b z x ≡ c → c ≡ false
+      go true p = let r = within-ranked x p in absurd (omega arith)
+      go false p = refl
+
   -- how many of them are below m
   pub within-count : (m : ℕ) → countBelow (within P b z) m ≡ min (countBelow P m - b) z
   unfolding countBelow within indicator

@@ -1,13 +1,15 @@
 -- A part after the check: what part-write answers by the part's extent, and its promise. Assumes nothing.
 use Prim.Native.Nat.{ℕ, _+_, _*_, _^_, _≤_}
 use mathlib.Core.Path.{_≡_, refl, sym, ap, _∙_}
-use mathlib.Core.Bool.{Bool, true, false, cond}
+use mathlib.Core.Bool.{Bool, true, false, cond, _||_}
 use mathlib.Core.List.{List}
 use mathlib.Core.Option.{Option, none, some}
 use native.Mathlib.Omega.{arith}
-use lib.Dec.{ltb}
+use lib.Dec.{eqb, ltb, leb}
 use lib.ListN.{length}
+use borrow.Author.Tests.{leb-false}
 use Rattle.words.specs.Words.{wordAt}
+use Rattle.words.proofs.Cases.{passed, or-false}
 use Rattle.diagram.specs.Format.{Words, nodes}
 use Rattle.diagram.specs.Meaning.{under}
 use Rattle.diagram.specs.Count.{countBelow}
@@ -23,6 +25,7 @@ use Rattle.checking.proofs.Compose.{sheet-length}
 use Rattle.checking.proofs.Accepting.{handed-on, answered}
 use Rattle.division.specs.Span.{start, size, within, inPart}
 use Rattle.division.specs.Operations.{noPart, spanOf}
+use Rattle.division.proofs.Parts.{part-inside}
 use Rattle.tables.specs.Table.{tableOf}
 use Rattle.tables.specs.Writing.{fitted, lengthOf, outAfter}
 use Rattle.writing.specs.Inner.{Writes}
@@ -54,6 +57,15 @@ module _ (k j c : ℕ) where
           let p : start c k j ≡ s = ap (λ q. q .0) v in
           let q : size c k j ≡ z = ap (λ q. q .1) v in
           rw (← p, ← q, c-is)
+
+  -- a part lies within the setups
+  pub span-inside : (s z : ℕ) → value (s, z) ≡ spanOf k j c → s + z ≤ c
+  unfolding spanOf noPart
+  span-inside s z e =
+      let a = passed (noPart k j) refused-not (sym e) in
+      let v = value-inj (a .1) in
+      let l = leb-false k j (or-false (eqb k 0 || ltb 65535 k) (leb k j) (a .0) .1) in
+      omega (arith, ap (λ q. q .0) v, ap (λ q. q .1) v, part-inside c k j l)
 
 -- rules 16 and 11 and a written table loosen the sheet
 fitted-loosens : (room : ℕ) (o : Option (List ℕ)) → loosens (fitted room o) ≡ true

@@ -2,4 +2,5 @@
 pub mod Promised
 pub mod Dividing
 pub mod Extents
+pub mod Lending
 pub mod Bounds
