@@ -1,20 +1,19 @@
 -- A cut's next node is numbered, in the terms of the code. Assumes nothing.
-use Prim.Native.Nat.{ℕ, suc, _+_, _*_, _/_, _%_, _≤_, _<_}
-use mathlib.Core.Path.{_≡_, refl, sym, ap, subst, _∙_}
+use Prim.Native.Nat.{ℕ, _+_, _*_, _/_, _%_, _≤_, _<_}
+use mathlib.Core.Path.{_≡_, sym, ap, subst, _∙_}
 use mathlib.Core.Logic.{inl, inr}
 use mathlib.Core.Bool.{Bool, true, false}
 use mathlib.Core.List.{List}
 use native.Mathlib.Omega.{arith}
-use native.Mathlib.Nat.{le-refl}
 use lib.ListN.{length}
 use Rattle.words.specs.Words.{wordAt}
 use Rattle.words.proofs.Cases.{less, same, more, tri}
-use Rattle.diagram.specs.Format.{Words, highField, middleField, height, thenEdge, elseEdge}
+use Rattle.diagram.specs.Format.{Words, highField, middleField, thenEdge, elseEdge}
 use Rattle.diagram.proofs.Paths.{side}
-use Rattle.numbering.specs.Renewal.{image, renew, IsKey, Gave}
+use Rattle.numbering.specs.Renewal.{IsKey, Gave}
 use Rattle.numbering.proofs.Images.{image-as, renew-as}
 use Rattle.numbering.proofs.Finish.{alike-trans}
-use Rattle.numbering.proofs.Given.{Placed, placed-alike, gave-length, gave-placed}
+use Rattle.numbering.proofs.Given.{placed-alike, gave-length, gave-placed}
 use Rattle.cutting.specs.Cut.{TwiceCut}
 use Rattle.merging.specs.Inner.{cutNode, front, Done, in-table, in-cut, Merging, Beyond, level, Limits, Comes, Reached, Passed, Moved}
 use Rattle.merging.proofs.Moves.{sides}

@@ -10,7 +10,7 @@ use Rattle.diagram.proofs.Paths.{side, side-node, side-height, side-lower}
 use Rattle.numbering.specs.Renewal.{renew}
 use Rattle.cutting.specs.Cut.{TwiceCut}
 use Rattle.merging.specs.Inner.{cutNode, front, Done, Fronts, Merging}
-use Rattle.merging.proofs.Merge.{Left, left-table, left-cut, place, cut-inside, cut-height, taller, not-taller, sorted, ordered}
+use Rattle.merging.proofs.Merge.{Left, left-table, left-cut, place, cut-height, taller, not-taller, sorted, ordered}
 
 -- node v may come next: the table's next node, if there is one, is kept and has no record below; a cut's next node is not lower, and has none if it is kept
 pub record Chosen (R W : Words) (n N p q r v : ℕ) : Type 0 where

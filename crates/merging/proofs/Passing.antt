@@ -1,7 +1,7 @@
 -- The table's nodes below a limit are numbered, in the terms of the loop that does it. Assumes nothing.
-use Prim.Native.Nat.{ℕ, suc, _+_, _*_, _/_, _≤_, _<_}
+use Prim.Native.Nat.{ℕ, _+_, _*_, _/_, _≤_, _<_}
 use mathlib.Core.Path.{_≡_, refl, sym, subst, _∙_}
-use mathlib.Core.Logic.{_⊎_, inl, inr}
+use mathlib.Core.Logic.{inl, inr}
 use mathlib.Core.Bool.{Bool, true, false}
 use mathlib.Core.List.{List}
 use native.Mathlib.Omega.{arith}
@@ -9,10 +9,9 @@ use native.Mathlib.Nat.{le-refl}
 use lib.ListN.{length}
 use Rattle.words.specs.Words.{wordAt}
 use Rattle.words.proofs.Cases.{less, same, more, tri}
-use Rattle.diagram.specs.Format.{Words, highField, height, thenEdge, elseEdge}
+use Rattle.diagram.specs.Format.{Words, highField, thenEdge, elseEdge}
 use Rattle.diagram.proofs.Paths.{side}
 use Rattle.numbering.specs.Renewal.{renew, IsKey, Gave}
-use Rattle.numbering.specs.Numbered.{Alike}
 use Rattle.numbering.proofs.Images.{renew-as}
 use Rattle.numbering.proofs.Finish.{alike-same, alike-trans}
 use Rattle.numbering.proofs.Given.{Placed, placed-alike, placed-other, gave-length, gave-placed}

@@ -5,7 +5,6 @@ use mathlib.Core.Logic.{inl, inr}
 use mathlib.Core.Bool.{Bool, true, false}
 use native.Mathlib.Omega.{arith}
 use Rattle.words.proofs.Cases.{less, same, more, tri}
-use Rattle.words.proofs.Stores.{Updated}
 use Rattle.diagram.specs.Format.{Words, highField, height, thenEdge, elseEdge}
 use Rattle.diagram.proofs.Paths.{side, side-node}
 use Rattle.numbering.specs.Renewal.{image, renew}
@@ -15,7 +14,7 @@ use Rattle.numbering.proofs.Assign.{Adds}
 use Rattle.numbering.proofs.Going.{Assigned, equal-edges, repeated, another}
 use Rattle.numbering.proofs.Given.{Placed, left-out, placed, placed-count, placed-going}
 use Rattle.cutting.specs.Cut.{TwiceCut}
-use Rattle.merging.specs.Inner.{front, cutNode, Done, in-table, in-cut, Kept, Merging}
+use Rattle.merging.specs.Inner.{cutNode, Done, in-table, in-cut, Kept, Merging}
 use Rattle.merging.proofs.Merge.{high, then-even, edges-differ, ordered}
 use Rattle.merging.proofs.Least.{Chosen, ready, least}
 

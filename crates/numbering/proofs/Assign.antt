@@ -6,7 +6,7 @@ use mathlib.Core.Bool.{Bool, true, false, cond}
 use native.Mathlib.Omega.{arith}
 use lib.Dec.{eqb}
 use borrow.Author.Tests.{eq-eqb, ne-eqb}
-use Rattle.words.proofs.Cases.{Tri, less, same, more, tri}
+use Rattle.words.proofs.Cases.{less, same, more, tri}
 use Rattle.words.proofs.Stores.{Updated}
 use Rattle.diagram.specs.Format.{Words, height, thenEdge, elseEdge}
 use Rattle.diagram.specs.Ordered.{Ordered}

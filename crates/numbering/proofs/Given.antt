@@ -1,12 +1,12 @@
 -- A node gets its place in the map, in the terms of the code. Assumes nothing.
 use Prim.Native.Nat.{ℕ, zero, suc, _+_, _*_, _/_, _%_, _≤_, _<_}
 use mathlib.Core.Path.{_≡_, sym, ap, _∙_}
-use mathlib.Core.Logic.{_⊎_, inl, inr}
+use mathlib.Core.Logic.{inl, inr}
 use mathlib.Core.Bool.{Bool, true, false}
 use mathlib.Core.List.{List}
 use native.Mathlib.Omega.{arith}
 use lib.ListN.{length}
-use Rattle.words.specs.Words.{wordAt, putWord}
+use Rattle.words.specs.Words.{wordAt}
 use Rattle.words.proofs.Cases.{less, same, more, tri}
 use Rattle.words.proofs.Stores.{Updated, put-updated, length-put}
 use Rattle.diagram.specs.Format.{Words, highField, middleField, lowField, height, thenEdge, elseEdge}

@@ -1,6 +1,6 @@
 -- What edges and records become under a map: their nodes, their fields and their bounds. Assumes nothing.
 use Prim.Native.Nat.{ℕ, zero, suc, _+_, _-_, _*_, _/_, _%_, _<_}
-use mathlib.Core.Path.{_≡_, refl, sym, ap, _∙_}
+use mathlib.Core.Path.{_≡_, refl, ap, _∙_}
 use mathlib.Core.Bool.{Bool, true, false, cond, Bool·not-not}
 use native.Mathlib.Omega.{arith}
 use Rattle.words.proofs.Stores.{Updated}

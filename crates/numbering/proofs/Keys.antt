@@ -1,13 +1,13 @@
 -- A node's new record, and what the node is given, in the terms of the code. Assumes nothing.
 use Prim.Native.Nat.{ℕ, zero, suc, _+_, _-_, _*_, _/_, _%_, _≤_, _<_}
-use mathlib.Core.Path.{_≡_, refl, sym, ap, ap₂, _∙_}
+use mathlib.Core.Path.{_≡_, refl, sym, _∙_}
 use mathlib.Core.Bool.{Bool, true, false}
 use mathlib.Core.List.{List}
 use native.Mathlib.Omega.{arith}
 use lib.Dec.{eqb}
 use lib.ListN.{length}
 use Rattle.words.specs.Words.{wordAt, putWord}
-use Rattle.diagram.specs.Format.{Words, highField, middleField, lowField, thenEdge, elseEdge}
+use Rattle.diagram.specs.Format.{Words, middleField, lowField, thenEdge, elseEdge}
 use Rattle.diagram.specs.Count.{indicator}
 use Rattle.diagram.specs.Reading.{HasFields, turn, recordOf}
 use Rattle.diagram.proofs.Paths.{side-node}

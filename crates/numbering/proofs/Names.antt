@@ -1,5 +1,5 @@
 -- A numbered diagram is proper: the new root leads to the last record, and every other record is named. Assumes nothing.
-use Prim.Native.Nat.{ℕ, zero, suc, _+_, _-_, _*_, _/_, _%_, _≤_, _<_}
+use Prim.Native.Nat.{ℕ, zero, suc, _+_, _-_, _/_, _≤_, _<_}
 use mathlib.Core.Path.{_≡_, refl, sym, ap, subst, _∙_}
 use mathlib.Core.Logic.{_⊎_, inl, inr}
 use mathlib.Core.Bool.{Bool, true, false}
@@ -8,7 +8,7 @@ use Rattle.diagram.specs.Format.{Words, height, thenEdge, elseEdge}
 use Rattle.diagram.specs.Ordered.{Ordered, Proper}
 use Rattle.diagram.proofs.Paths.{side, side-node}
 use Rattle.numbering.specs.Renewal.{image}
-use Rattle.numbering.specs.Numbered.{Good, dropped, made, Source, Numbered, Closed, Wanted}
+use Rattle.numbering.specs.Numbered.{Good, dropped, made, Numbered, Closed, Wanted}
 use Rattle.numbering.proofs.Images.{image-node}
 use Rattle.numbering.proofs.Renumber.{image-inside, made-node, renumber-reduced}
 
