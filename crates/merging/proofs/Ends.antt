@@ -14,7 +14,8 @@ use Rattle.numbering.specs.Numbered.{Marked, Alike, Finished}
 use Rattle.numbering.proofs.Finish.{start, finish, alike-same, alike-trans}
 use Rattle.cutting.specs.Cut.{TwiceCut, Room}
 use Rattle.merging.specs.Inner.{front, Done, in-table, in-cut, Merging, Limits, Reached, Passed}
-use Rattle.merging.proofs.Merge.{Left, left-table, left-cut, place, few-records, high}
+use Rattle.merging.proofs.Lists.{Left, left-table, left-cut, place}
+use Rattle.merging.proofs.Merge.{few-records, high}
 use Rattle.merging.proofs.Levels.{same-front}
 
 -- a map of the same length has the same room

@@ -16,7 +16,8 @@ use Rattle.numbering.specs.Renewal.{IsKey}
 use Rattle.cutting.specs.Cut.{TwiceCut}
 use Rattle.merging.specs.Inner.{cutNode, front, Done, in-table, in-cut, Merging, higher, level, Limits, Comes, Passed, Moved}
 use Rattle.merging.proofs.Moves.{sides}
-use Rattle.merging.proofs.Merge.{cut-inside, cut-level, few-records, high}
+use Rattle.merging.proofs.Lists.{cut-inside, cut-level}
+use Rattle.merging.proofs.Merge.{few-records, high}
 use Rattle.merging.proofs.Least.{sides-done}
 use Rattle.merging.proofs.Cuts.{key-high}
 
@@ -49,6 +50,7 @@ pub moved-both : (q r q₁ r₁ q₂ r₂ : ℕ) (b : Bool) → Moved q r q₁ r
 moved-both q r q₁ r₁ q₂ r₂ true S T e = (omega (arith, S .there false (λ p. true≢false (sym p)), T .here), omega (arith, S .here, T .there true true≢false))
 moved-both q r q₁ r₁ q₂ r₂ false S T e = (omega (arith, S .here, T .there false (λ p. true≢false (sym p))), omega (arith, S .there true true≢false, T .here))
 
+-- a side and the other one
 not-self : (b : Bool) → not b ≡ b → ⊥
 not-self true e = true≢false (sym e)
 not-self false e = true≢false e

@@ -78,7 +78,7 @@ fn key_in(table: &[u8], more: &[u64; 128], map: &[u8], n: usize, nodes: usize, v
     numbering::key_of(map, v, word)
 }
 
-// Numbers the table's next nodes whose new records are not above the limit.
+// Numbers the table's next nodes whose new records are not above the limit. (`more` and n are for the contract.)
 fn number_table(
     table: &[u8],
     more: &[u64; 128],
@@ -174,7 +174,7 @@ fn number_level(
     number_cut(table, more, map, n, nodes, !swap, between)
 }
 
-// Numbers the nodes that are marked, and counts their new records.
+// Numbers the nodes that are marked, and counts their new records. (The root edge is for the contract.)
 pub fn number(
     table: &[u8],
     more: &[u64; 128],

@@ -78,6 +78,7 @@ pub renew-as : (R W W′ : Words) (v : ℕ) → ((b : Bool) → W′ (side R b v
 unfolding renew thenEdge elseEdge
 renew-as R W W′ v s = rw (image-as W W′ (middleField (R v)) (s true), image-as W W′ (lowField (R v)) (s false))
 
+-- turned twice
 flip-twice : (f : ℕ) → (b : Bool) → flip f (flip f b) ≡ b
 unfolding flip
 flip-twice zero b = refl
