@@ -54,7 +54,7 @@ number-cut-requires c κs =
       P .passing .reached .merging,
       comes-first _ _ _ _ _ _ _ _ _ _ _ _ (p .1) (p .0 .few-settings) (p .0 .few-nodes) (t .2 ∙ p .3 ∙ sym (t .1)) (omega (arith, t .1, p .4)) (omega (arith, t .1)) P _ _ _ _ _ _ _
           (c .before .before .before .before .before .before .before .cut-node .ensures ∙ ap (cutNode (a .args .nodes) (a .args .n) false) (sym (t .1))) (c .before .before .before .before .before .before .key-in .ensures)
-          (c .before .before .before .before .cut-node2 .ensures ∙ ap (cutNode (a .args .nodes) (a .args .n) true) (sym (t .1))) (c .before .before .before .key-in2 .ensures) refl,
+          (c .before .before .before .before .cut-node2 .ensures ∙ ap (cutNode (a .args .nodes) (a .args .n) true) (sym (t .1))) (c .before .before .before .key-in2 .ensures) (search needs),
     )
 
 number-cut-requires-2 : tie.Need-number-cut-requires-2
