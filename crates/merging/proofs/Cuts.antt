@@ -1,24 +1,24 @@
 -- A cut's next node is numbered, in the terms of the code. Assumes nothing.
-use Prim.Native.Nat.{ℕ, suc, _+_, _*_, _/_, _%_, _≤_, _<_}
-use mathlib.Core.Path.{_≡_, refl, sym, ap, subst, _∙_}
+use Prim.Native.Nat.{ℕ, _+_, _*_, _/_, _%_, _≤_, _<_}
+use mathlib.Core.Path.{_≡_, sym, ap, subst, _∙_}
 use mathlib.Core.Logic.{inl, inr}
 use mathlib.Core.Bool.{Bool, true, false}
 use mathlib.Core.List.{List}
 use native.Mathlib.Omega.{arith}
-use native.Mathlib.Nat.{le-refl}
 use lib.ListN.{length}
 use Rattle.words.specs.Words.{wordAt}
 use Rattle.words.proofs.Cases.{less, same, more, tri}
-use Rattle.diagram.specs.Format.{Words, highField, middleField, height, thenEdge, elseEdge}
+use Rattle.diagram.specs.Format.{Words, highField, middleField, thenEdge, elseEdge}
 use Rattle.diagram.proofs.Paths.{side}
-use Rattle.numbering.specs.Renewal.{image, renew, IsKey, Gave}
+use Rattle.numbering.specs.Renewal.{IsKey, Gave}
 use Rattle.numbering.proofs.Images.{image-as, renew-as}
 use Rattle.numbering.proofs.Finish.{alike-trans}
-use Rattle.numbering.proofs.Given.{Placed, placed-alike, gave-length, gave-placed}
+use Rattle.numbering.proofs.Given.{placed-alike, gave-length, gave-placed}
 use Rattle.cutting.specs.Cut.{TwiceCut}
 use Rattle.merging.specs.Inner.{cutNode, front, Done, in-table, in-cut, Merging, Beyond, level, Limits, Comes, Reached, Passed, Moved}
 use Rattle.merging.proofs.Moves.{sides}
-use Rattle.merging.proofs.Merge.{cut-inside, cut-level, few-records, high}
+use Rattle.merging.proofs.Lists.{cut-inside, cut-level}
+use Rattle.merging.proofs.Merge.{few-records, high}
 use Rattle.merging.proofs.Least.{Chosen}
 use Rattle.merging.proofs.StepCut.{step-cut}
 use Rattle.merging.proofs.Passing.{beyond-limit}
@@ -51,14 +51,17 @@ module _ (R : Words) (map : List ℕ) (n N c last p q r u word flag : ℕ) (b : 
   few : c < 268435454
   few = omega (arith, few-records R W n N c last p q r X G)
 
+  -- it lies behind the table, and before the end
   beyond : (N < v) × (v ≤ N + n + n)
   beyond = let i = cut-inside R n N X b (front q r b) (C .inside) in (omega (arith, i .0, G .fronts .low b), i .1)
 
+  -- its own record is its limit
   own : Beyond R W N n p q r (front q r b) v word
   own =
       level (key-high R W n N c last p q r X G few b (front q r b) word flag (G .fronts .low b) (C .inside) K) (C .then-done) (C .else-done)
       (λ k. omega (arith, K .word-is k))
 
+  -- the other cut's is not below it either
   pub cut-limits : Limits R W n N p q r word
   cut-limits d l = elim (sides d b) [
     | inl e ↦ subst (λ (s : Bool). Beyond R W N n p q r (front q r s) (cutNode N n s (front q r s)) word) (sym e) own

@@ -1,21 +1,21 @@
 -- Numbering a twice-cut table from its start to its end. Assumes nothing.
-use Prim.Native.Nat.{ℕ, suc, _+_, _*_, _/_, _≤_, _<_}
+use Prim.Native.Nat.{ℕ, suc, _+_, _/_, _≤_, _<_}
 use mathlib.Core.Path.{_≡_, refl, _∙_}
-use mathlib.Core.Logic.{_⊎_, inl, inr}
+use mathlib.Core.Logic.{inl, inr}
 use mathlib.Core.Bool.{Bool, true, false}
 use mathlib.Core.List.{List}
 use native.Mathlib.Omega.{arith}
 use native.Mathlib.Nat.{le-refl}
 use lib.ListN.{length}
 use Rattle.words.specs.Words.{wordAt}
-use Rattle.words.proofs.Cases.{less, same, more, tri}
 use Rattle.diagram.specs.Format.{Words, highField}
 use Rattle.diagram.proofs.Paths.{height-le-settings}
 use Rattle.numbering.specs.Numbered.{Marked, Alike, Finished}
 use Rattle.numbering.proofs.Finish.{start, finish, alike-same, alike-trans}
 use Rattle.cutting.specs.Cut.{TwiceCut, Room}
 use Rattle.merging.specs.Inner.{front, Done, in-table, in-cut, Merging, Limits, Reached, Passed}
-use Rattle.merging.proofs.Merge.{Left, left-table, left-cut, place, few-records, high}
+use Rattle.merging.proofs.Lists.{Left, left-table, left-cut, place}
+use Rattle.merging.proofs.Merge.{few-records, high}
 use Rattle.merging.proofs.Levels.{same-front}
 
 -- a map of the same length has the same room

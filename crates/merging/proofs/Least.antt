@@ -10,7 +10,8 @@ use Rattle.diagram.proofs.Paths.{side, side-node, side-height, side-lower}
 use Rattle.numbering.specs.Renewal.{renew}
 use Rattle.cutting.specs.Cut.{TwiceCut}
 use Rattle.merging.specs.Inner.{cutNode, front, Done, Fronts, Merging}
-use Rattle.merging.proofs.Merge.{Left, left-table, left-cut, place, cut-inside, cut-height, taller, not-taller, sorted, ordered}
+use Rattle.merging.proofs.Lists.{Left, left-table, left-cut, place, cut-height}
+use Rattle.merging.proofs.Merge.{taller, not-taller, sorted, ordered}
 
 -- node v may come next: the table's next node, if there is one, is kept and has no record below; a cut's next node is not lower, and has none if it is kept
 pub record Chosen (R W : Words) (n N p q r v : ℕ) : Type 0 where
@@ -36,12 +37,14 @@ module _ (R W : Words) (n N c last p q r : ℕ) (X : TwiceCut R n N) (G : Mergin
       no (left-table s t) = omega (arith, i (omega arith), sorted R W n N c last p q r X G few p a (F .p-low) s t)
       no (left-cut b s t) = let u = cut-left b a s t in omega (arith, j b (u .0), u .1)
 
+  -- so are the nodes to which a node not above it leads
   pub sides-done : (h : ℕ) → (p ≤ N → h ≤ height R p) → ((b : Bool) → front q r b ≤ n → h ≤ front q r b) → (v : ℕ) → 0 < v → v ≤ M → height R v ≤ h → (b : Bool) → Done N n p q r (side R b v / 2)
   sides-done h i j v some inside low b =
       let t = side-lower R n M (X .ordered) b v some inside in
       lower-done h i j (side R b v / 2) (omega (arith, t .node)) (omega (arith, t .low))
 
 module _ (R W : Words) (n N c last p q r : ℕ) (X : TwiceCut R n N) (G : Merging R W n N c last p q r) (few : c < 268435454) (v : ℕ) (some : 0 < v) (inside : v ≤ N + n + n) (H : Chosen R W n N p q r v) where
+  -- its edges lead to nodes that are done
   pub ready : (b : Bool) → Done N n p q r (side R b v / 2)
   ready =
       sides-done R W n N c last p q r X G few (height R v)
@@ -76,6 +79,7 @@ module _ (R W : Words) (n N c last p q r : ℕ) (X : TwiceCut R n N) (G : Mergin
           rw e (ordered R W n N c last p q r X G few a u l j (rw e at w) k
           (λ b. omega (arith, side-node R n N (X .table .ordered) b a o)) (before u j (omega arith) s))
 
+  -- no record of the table that is left is below
   table-least : (u : ℕ) → p ≤ suc u → u < N → 0 < W (suc u) → renew W (R v) ≤ renew W (R (suc u))
   table-least u i j k = go (tri p (suc u)) (H .by-table (omega arith))
     where
@@ -84,6 +88,7 @@ module _ (R W : Words) (n N c last p q r : ℕ) (X : TwiceCut R n N) (G : Mergin
       go (more l) b = absurd (omega arith)
       go (less l) b = let f = G .fronts .p-low in let e : p ≡ suc (p - 1) = omega arith in omega (arith, b .1, front-least (p - 1) u e (omega arith) j (b .0) k)
 
+  -- nor of a cut
   cut-least : (b : Bool) (u : ℕ) → cutNode N n b (front q r b) ≤ suc u → suc u ≤ cutNode N n b n → suc u ≤ N + n + n → 0 < W (suc u) → renew W (R v) ≤ renew W (R (suc u))
   cut-least b u i j l k = elim (tri f (suc u)) [
     | less s ↦ omega (arith, taller R W n N c last p q r X G few v (suc u) some (omega arith) inside l (omega (arith, t .0, cut-height R n N X b (suc u) (omega (arith, G .fronts .low b)) j)))
@@ -97,6 +102,7 @@ module _ (R W : Words) (n N c last p q r : ℕ) (X : TwiceCut R n N) (G : Mergin
       t : (height R v ≤ front q r b) × (0 < W f → renew W (R v) ≤ renew W (R f))
       t = H .by-cut b (cut-left R W n N c last p q r X G few b (suc u) i j .0)
 
+  -- nor any
   pub least : (u : ℕ) → u < N + n + n → 0 < W (suc u) → (Done N n p q r (suc u) → ⊥) → renew W (R v) ≤ renew W (R (suc u))
   least u l k d = elim (place N n p q r (suc u) l) [ inl a ↦ absurd (d a) | inr a ↦ go a ]
     where

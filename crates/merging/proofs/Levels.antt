@@ -1,7 +1,7 @@
 -- A level of the cuts is numbered, in the terms of the code. Assumes nothing.
 use Prim.Native.Nat.{ℕ, suc, _+_, _-_, _*_, _/_, _≤_, _<_}
-use mathlib.Core.Path.{_≡_, refl, sym, ap, subst, _∙_}
-use mathlib.Core.Logic.{_⊎_, inl, inr}
+use mathlib.Core.Path.{_≡_, refl, sym, subst, _∙_}
+use mathlib.Core.Logic.{inl, inr}
 use mathlib.Core.Bool.{Bool, true, false, not, cond, true≢false}
 use mathlib.Core.List.{List}
 use native.Mathlib.Omega.{arith}
@@ -10,13 +10,14 @@ use lib.Dec.{ltb}
 use borrow.Author.Tests.{ltb-true, ltb-false}
 use Rattle.words.specs.Words.{wordAt}
 use Rattle.words.proofs.Cases.{less, same, more, tri}
-use Rattle.diagram.specs.Format.{Words, highField, height}
+use Rattle.diagram.specs.Format.{Words, highField}
 use Rattle.diagram.proofs.Paths.{side}
-use Rattle.numbering.specs.Renewal.{renew, IsKey}
+use Rattle.numbering.specs.Renewal.{IsKey}
 use Rattle.cutting.specs.Cut.{TwiceCut}
 use Rattle.merging.specs.Inner.{cutNode, front, Done, in-table, in-cut, Merging, higher, level, Limits, Comes, Passed, Moved}
 use Rattle.merging.proofs.Moves.{sides}
-use Rattle.merging.proofs.Merge.{cut-inside, cut-level, few-records, high}
+use Rattle.merging.proofs.Lists.{cut-inside, cut-level}
+use Rattle.merging.proofs.Merge.{few-records, high}
 use Rattle.merging.proofs.Least.{sides-done}
 use Rattle.merging.proofs.Cuts.{key-high}
 
@@ -49,6 +50,7 @@ pub moved-both : (q r q₁ r₁ q₂ r₂ : ℕ) (b : Bool) → Moved q r q₁ r
 moved-both q r q₁ r₁ q₂ r₂ true S T e = (omega (arith, S .there false (λ p. true≢false (sym p)), T .here), omega (arith, S .here, T .there true true≢false))
 moved-both q r q₁ r₁ q₂ r₂ false S T e = (omega (arith, S .here, T .there false (λ p. true≢false (sym p))), omega (arith, S .there true true≢false, T .here))
 
+-- a side and the other one
 not-self : (b : Bool) → not b ≡ b → ⊥
 not-self true e = true≢false (sym e)
 not-self false e = true≢false e
@@ -111,8 +113,12 @@ module _ (R : Words) (map map₁ : List ℕ) (n N p q r limit c last p₁ : ℕ)
     inside = rw at-front l;
     then-done = done-moves m T (level-ready (not swap) true);
     else-done = done-moves m T (level-ready (not swap) false);
-    limit = λ word flag K d o i. higher (omega (arith, subst (λ (s : Bool). front q₂ r₂ s ≡ suc (front q r s)) (sym (not-other d swap o)) (T .here), same-front q r e d,
-        key-high R (wordAt map₂) n N c₂ last₂ p₂ q₂ r₂ X G₂ (omega (arith, few-records R (wordAt map₂) n N c₂ last₂ p₂ q₂ r₂ X G₂)) (not swap) q word flag some l K));
+    limit = λ word flag K d o i. higher (omega (
+      arith,
+      subst (λ (s : Bool). front q₂ r₂ s ≡ suc (front q r s)) (sym (not-other d swap o)) (T .here),
+      same-front q r e d,
+      key-high R (wordAt map₂) n N c₂ last₂ p₂ q₂ r₂ X G₂ (omega (arith, few-records R (wordAt map₂) n N c₂ last₂ p₂ q₂ r₂ X G₂)) (not swap) q word flag some l K,
+    ));
   })
     where
       at-front : front q₂ r₂ (not swap) ≡ q

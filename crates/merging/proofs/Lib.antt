@@ -1,6 +1,7 @@
 -- The laws of numbering a twice-cut table.
 pub mod Order
 pub mod Moves
+pub mod Lists
 pub mod Merge
 pub mod Least
 pub mod StepCut

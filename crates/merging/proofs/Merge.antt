@@ -1,7 +1,6 @@
--- Numbering a table with two cuts: where the nodes lie, and the order of the table's new records. Assumes nothing.
-use Prim.Native.Nat.{ℕ, zero, suc, _+_, _-_, _*_, _/_, _%_, _^_, _≤_, _<_}
+-- Numbering a table with two cuts: the order of the new records. Assumes nothing.
+use Prim.Native.Nat.{ℕ, zero, suc, _+_, _-_, _/_, _%_, _^_, _≤_, _<_}
 use mathlib.Core.Path.{_≡_, refl, sym, ap, _∙_}
-use mathlib.Core.Logic.{_⊎_, inl, inr}
 use mathlib.Core.Bool.{Bool, true, false, cond}
 use native.Mathlib.Omega.{arith}
 use Rattle.words.proofs.Cases.{less, same, more, tri}
@@ -15,44 +14,8 @@ use Rattle.numbering.specs.Numbered.{Numbered, Keyed}
 use Rattle.numbering.proofs.Images.{normal-side, image-side, renew-node}
 use Rattle.numbering.proofs.Renumber.{closed-side, renew-high, side-lt}
 use Rattle.cutting.specs.Cut.{TwiceCut}
-use Rattle.merging.specs.Inner.{cutNode, front, Done, in-table, in-cut, Merging}
+use Rattle.merging.specs.Inner.{Done, Merging}
 use Rattle.merging.proofs.Order.{word-order}
-
--- the nodes that are not before the fronts
-pub data Left (N n p q r v : ℕ) : Type 0 where
-  left-table : p ≤ v → v ≤ N → Left N n p q r v
-  left-cut : (b : Bool) → cutNode N n b (front q r b) ≤ v → v ≤ cutNode N n b n → Left N n p q r v
-
-pub place : (N n p q r v : ℕ) → v ≤ N + n + n → Done N n p q r v ⊎ Left N n p q r v
-place N n p q r v l = elim (tri v (suc N)) [ less a ↦ table (omega arith) | same a ↦ rest (omega arith) | more a ↦ rest (omega arith) ]
-  where
-    table : v ≤ N → Done N n p q r v ⊎ Left N n p q r v
-    table a = elim (tri v p) [ less b ↦ inl (in-table b) | same b ↦ inr (left-table (omega arith) a) | more b ↦ inr (left-table (omega arith) a) ]
-
-    cut : (b : Bool) → cutNode N n b 0 < v → v ≤ cutNode N n b n → Done N n p q r v ⊎ Left N n p q r v
-    cut b a m = elim (tri v (cutNode N n b (front q r b))) [ less d ↦ inl (in-cut b a d) | same d ↦ inr (left-cut b (omega arith) m) | more d ↦ inr (left-cut b (omega arith) m) ]
-
-    rest : N < v → Done N n p q r v ⊎ Left N n p q r v
-    rest a = elim (tri v (suc (N + n))) [ less b ↦ cut false (omega arith) (omega arith) | same b ↦ cut true (omega arith) (omega arith) | more b ↦ cut true (omega arith) (omega arith) ]
-
--- a cut's node of height h
-module _ (R : Words) (n N : ℕ) (X : TwiceCut R n N) (b : Bool) where
-  pub cut-inside : (h : ℕ) → h ≤ n → (N + h ≤ cutNode N n b h) × (cutNode N n b h ≤ N + n + n)
-  cut-inside h l = go b
-    where
-      go : (b : Bool) → (N + h ≤ cutNode N n b h) × (cutNode N n b h ≤ N + n + n)
-      go true = (omega arith, omega arith)
-      go false = (omega arith, omega arith)
-
-  pub cut-height : (v : ℕ) → cutNode N n b 0 < v → v ≤ cutNode N n b n → cutNode N n b (height R v) ≡ v
-  cut-height v l m = go b l m
-    where
-      go : (b : Bool) → cutNode N n b 0 < v → v ≤ cutNode N n b n → cutNode N n b (height R v) ≡ v
-      go true l m = omega (arith, X .second v (omega arith) m)
-      go false l m = omega (arith, X .first v (omega arith) m)
-
-  pub cut-level : (h : ℕ) → 0 < h → h ≤ n → height R (cutNode N n b h) ≡ h
-  cut-level h l m = omega (arith, cut-height (cutNode N n b h) (omega arith) (omega arith))
 
 -- there are no more records than nodes before the fronts, and they can be read off
 module _ (R W : Words) (n N c last p q r : ℕ) (X : TwiceCut R n N) (G : Merging R W n N c last p q r) where
@@ -77,6 +40,7 @@ module _ (R W : Words) (n N c last p q r : ℕ) (X : TwiceCut R n N) (G : Mergin
   high zero l m = absurd (omega arith)
   high (suc v) l m = renew-high R W (G .going .list) n M c (Done N n p q r) D (G .going .closed) S (omega arith) v m
 
+  -- so a higher node has a greater record
   pub taller : (u v : ℕ) → 0 < u → 0 < v → u ≤ M → v ≤ M → height R u < height R v → renew W (R u) < renew W (R v)
   taller u v a b l m q = let i = high u a l in let j = high v b m in unfold highField in omega arith
 
@@ -100,6 +64,7 @@ module _ (R W : Words) (n N c last p q r : ℕ) (X : TwiceCut R n N) (G : Mergin
       go zero q = omega arith
       go (suc f) q = let a = G .kept .plain (e / 2) l k in omega arith
 
+  -- they keep the order of the edges
   image-lt : (a b : ℕ) → a / 2 < p → b / 2 < p → 0 < W (a / 2) → 0 < W (b / 2) → a < b → image W a < image W b
   image-lt a b l m i j q =
       let x = image-old a l i in

@@ -1,7 +1,7 @@
 -- The table's nodes below a limit are numbered, in the terms of the loop that does it. Assumes nothing.
-use Prim.Native.Nat.{ℕ, suc, _+_, _*_, _/_, _≤_, _<_}
+use Prim.Native.Nat.{ℕ, _+_, _*_, _/_, _≤_, _<_}
 use mathlib.Core.Path.{_≡_, refl, sym, subst, _∙_}
-use mathlib.Core.Logic.{_⊎_, inl, inr}
+use mathlib.Core.Logic.{inl, inr}
 use mathlib.Core.Bool.{Bool, true, false}
 use mathlib.Core.List.{List}
 use native.Mathlib.Omega.{arith}
@@ -9,16 +9,16 @@ use native.Mathlib.Nat.{le-refl}
 use lib.ListN.{length}
 use Rattle.words.specs.Words.{wordAt}
 use Rattle.words.proofs.Cases.{less, same, more, tri}
-use Rattle.diagram.specs.Format.{Words, highField, height, thenEdge, elseEdge}
+use Rattle.diagram.specs.Format.{Words, highField, thenEdge, elseEdge}
 use Rattle.diagram.proofs.Paths.{side}
 use Rattle.numbering.specs.Renewal.{renew, IsKey, Gave}
-use Rattle.numbering.specs.Numbered.{Alike}
 use Rattle.numbering.proofs.Images.{renew-as}
 use Rattle.numbering.proofs.Finish.{alike-same, alike-trans}
 use Rattle.numbering.proofs.Given.{Placed, placed-alike, placed-other, gave-length, gave-placed}
 use Rattle.cutting.specs.Cut.{TwiceCut}
 use Rattle.merging.specs.Inner.{cutNode, front, Done, Merging, Beyond, higher, level, Limits, Passing, Passed}
-use Rattle.merging.proofs.Merge.{cut-inside, cut-level, few-records, high}
+use Rattle.merging.proofs.Lists.{cut-inside, cut-level}
+use Rattle.merging.proofs.Merge.{few-records, high}
 use Rattle.merging.proofs.Least.{Chosen}
 use Rattle.merging.proofs.StepTable.{table-adds, step-table}
 
@@ -39,6 +39,7 @@ module _ (R W : Words) (n N c last p q r : ℕ) (X : TwiceCut R n N) (G : Mergin
   abbrev v : ℕ
   v = cutNode N n b (front q r b)
 
+  -- nor is its height below that of the limit
   pub beyond-limit : Beyond R W N n p q r (front q r b) v limit → (highField limit ≤ front q r b) × (0 < W v → limit ≤ renew W (R v))
   beyond-limit (higher m) =
       let f = G .fronts .low b in
@@ -84,6 +85,7 @@ module _ (R : Words) (map₀ map : List ℕ) (n N limit p₀ q r c last p z word
   pub turn-last : limit < word → Passed R map₀ map n N limit p₀ q r c last p
   turn-last m = let k = key-live W p (R p) word flag K (omega arith) in record { passing = T; above = λ i. (k .0, omega (arith, k .1)) }
 
+  -- not above the limit: it may come next
   chosen : word ≤ limit → 0 < W p → Chosen R W n N p q r p
   chosen m k = record {
     by-table = λ i. (k, le-refl (renew W (R p)));
@@ -93,6 +95,7 @@ module _ (R : Words) (map₀ map : List ℕ) (n N limit p₀ q r c last p z word
         (unfold highField in omega (arith, t .0), λ o. omega (arith, t .1 o));
   }
 
+  -- it gets its place
   pub turn-next : (map′ : List ℕ) (c′ last′ : ℕ) → 8 * p + 8 ≤ length map → word ≤ limit → Gave map map′ p word flag c last c′ last′ → Passing R map₀ map′ n N limit p₀ q r c′ last′ (p + 1)
   turn-next map′ c′ last′ long m g =
       let P = gave-placed R n (N + n + n) c last (Done N n p q r) (X .ordered) few map map′ p word flag c′ last′ (G .going) (G .fronts .p-low) (omega arith) long K g in

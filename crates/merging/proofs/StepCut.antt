@@ -1,5 +1,5 @@
 -- The next node of a cut is numbered, or passed if it is left out. Assumes nothing.
-use Prim.Native.Nat.{ℕ, suc, _+_, _≤_, _<_}
+use Prim.Native.Nat.{ℕ, _+_, _≤_, _<_}
 use mathlib.Core.Path.{_≡_, refl, sym, subst}
 use mathlib.Core.Logic.{_⊎_, inl, inr}
 use mathlib.Core.Bool.{Bool, true, false}
@@ -11,7 +11,7 @@ use Rattle.numbering.proofs.Given.{Placed, placed-other, placed-count, placed-g
 use Rattle.cutting.specs.Cut.{TwiceCut}
 use Rattle.merging.specs.Inner.{cutNode, front, Done, in-table, in-cut, Fronts, Kept, Merging, Moved}
 use Rattle.merging.proofs.Moves.{sides}
-use Rattle.merging.proofs.Merge.{cut-inside}
+use Rattle.merging.proofs.Lists.{cut-inside}
 use Rattle.merging.proofs.Least.{Chosen, ready, least}
 
 module _ (R W W′ : Words) (n N c last p q r c′ last′ q′ r′ : ℕ) (b : Bool) (X : TwiceCut R n N) (G : Merging R W n N c last p q r) (few : c < 268435454) (T : Moved q r q′ r′ b) (l : front q r b ≤ n) where
@@ -21,6 +21,7 @@ module _ (R W W′ : Words) (n N c last p q r c′ last′ q′ r′ : ℕ) (b :
   F : Fronts N n p q r
   F = G .fronts
 
+  -- it lies behind the table
   beyond : N < v
   beyond = omega (arith, cut-inside R n N X b (front q r b) l .0, F .low b)
 
@@ -31,6 +32,7 @@ module _ (R W W′ : Words) (n N c last p q r c′ last′ q′ r′ : ℕ) (b :
   elsewhere true false n m i j = omega arith
   elsewhere false true n m i j = omega (arith, F .high false, F .low true)
 
+  -- it is the node that is done next
   adds : Adds (Done N n p q r) (Done N n p q′ r′) v
   adds = record {
     fresh = elim [
@@ -54,6 +56,7 @@ module _ (R W W′ : Words) (n N c last p q r c′ last′ q′ r′ : ℕ) (b :
       own : (u : ℕ) → cutNode N n b 0 < u → u < cutNode N n b (front q′ r′ b) → (u ≡ v) ⊎ Done N n p q r u
       own u i j = elim (tri u v) [ less s ↦ inr (in-cut b i s) | same s ↦ inl s | more s ↦ absurd (omega (arith, T .here)) ]
 
+  -- the fronts stay at nodes, or behind the last one
   fronts : Fronts N n p q′ r′
   fronts = record {
     p-low = F .p-low;
@@ -72,6 +75,7 @@ module _ (R W W′ : Words) (n N c last p q r c′ last′ q′ r′ : ℕ) (b :
       o : (i : ℕ) → i < p → W′ i ≡ W i
       o i m = placed-other P i (λ s. omega (arith, beyond, F .p-high))
 
+  -- it is numbered, if it may come next
   pub step-cut : Placed R W W′ v c last c′ last′ → (0 < W v → Chosen R W n N p q r v) → Merging R W′ n N c′ last′ p q′ r′
   step-cut P H =
       let some : 0 < v = omega (arith, beyond) in

@@ -5,7 +5,6 @@ use mathlib.Core.Logic.{inl, inr}
 use mathlib.Core.Bool.{Bool, true, false}
 use native.Mathlib.Omega.{arith}
 use Rattle.words.proofs.Cases.{less, same, more, tri}
-use Rattle.words.proofs.Stores.{Updated}
 use Rattle.diagram.specs.Format.{Words, highField, height, thenEdge, elseEdge}
 use Rattle.diagram.proofs.Paths.{side, side-node}
 use Rattle.numbering.specs.Renewal.{image, renew}
@@ -15,7 +14,7 @@ use Rattle.numbering.proofs.Assign.{Adds}
 use Rattle.numbering.proofs.Going.{Assigned, equal-edges, repeated, another}
 use Rattle.numbering.proofs.Given.{Placed, left-out, placed, placed-count, placed-going}
 use Rattle.cutting.specs.Cut.{TwiceCut}
-use Rattle.merging.specs.Inner.{front, cutNode, Done, in-table, in-cut, Kept, Merging}
+use Rattle.merging.specs.Inner.{cutNode, Done, in-table, in-cut, Kept, Merging}
 use Rattle.merging.proofs.Merge.{high, then-even, edges-differ, ordered}
 use Rattle.merging.proofs.Least.{Chosen, ready, least}
 
@@ -84,6 +83,7 @@ module _ (R W W′ : Words) (n N c last v q r c′ last′ : ℕ) (X : TwiceCut 
         go (repeated a b d f g) = repeated-above i m k b d
         go (another a b d f g) = omega (arith, G .going .numbered .small i (omega arith))
 
+  -- the places before the next front keep their order
   kept : Placed R W W′ (suc v) c last c′ last′ → Kept W′ (suc v + 1)
   kept (left-out z e a b) = rw e (record {
     plain = λ i o k. elim (tri i (suc v)) [ less s ↦ G .kept .plain i s k | same s ↦ absurd (omega (arith, ap W s)) | more s ↦ absurd (omega arith) ];
@@ -101,6 +101,7 @@ module _ (R W W′ : Words) (n N c last v q r c′ last′ : ℕ) (X : TwiceCut 
       o : (i : ℕ) → i < suc v → W′ i ≡ W i
       o i m = U .other i (λ s. omega arith)
 
+  -- it is numbered, if it may come next
   next : Placed R W W′ (suc v) c last c′ last′ → (0 < W (suc v) → Chosen R W n N (suc v) q r (suc v)) → Merging R W′ n N c′ last′ (suc v + 1) q r
   next P H = record {
     fronts = record { p-low = omega arith; p-high = omega arith; low = G .fronts .low; high = G .fronts .high };
@@ -110,6 +111,7 @@ module _ (R W W′ : Words) (n N c last v q r c′ last′ : ℕ) (X : TwiceCut 
     count = omega (arith, G .count, placed-count P);
   }
 
+-- the same of a node by its own number
 pub step-table : (R W W′ : Words) (n N c last p q r c′ last′ : ℕ) → TwiceCut R n N → Merging R W n N c last p q r → c < 268435454 → p ≤ N
     → Placed R W W′ p c last c′ last′ → (0 < W p → Chosen R W n N p q r p) → Merging R W′ n N c′ last′ (p + 1) q r
 step-table R W W′ n N c last zero q r c′ last′ X G few l P H = absurd (omega (arith, G .fronts .p-low))

@@ -78,7 +78,7 @@ fn key_in(table: &[u8], more: &[u64; 128], map: &[u8], n: usize, nodes: usize, v
     numbering::key_of(map, v, word)
 }
 
-// Numbers the table's next nodes whose new records are not above the limit.
+// Numbers the table's next nodes whose new records are not above the limit. (`more` and n are for the contract.)
 fn number_table(
     table: &[u8],
     more: &[u64; 128],
@@ -92,7 +92,7 @@ fn number_table(
         × Merging (extended (wordAt (now table)) nodes (now more)) (wordAt (now map)) n nodes (at .tally .count) (at .tally .last) (at .next) (at .first) (at .second)
         × Limits (extended (wordAt (now table)) nodes (now more)) (wordAt (now map)) n nodes (at .next) (at .first) (at .second) limit ⌝ }
     ensures { λ r. ⌜ Passed (extended (wordAt (now (table .entry))) nodes (now (more .entry))) (now (map .entry)) (now (map .exit)) n nodes limit
-            (at .next) (at .first) (at .second) (r .tally .count) (r .tally .last) (r .next)
+        (at .next) (at .first) (at .second) (r .tally .count) (r .tally .last) (r .next)
         × (r .first ≡ at .first) × (r .second ≡ at .second) ⌝ }
 {
     let first = at.first;
@@ -136,9 +136,9 @@ fn number_cut(
     requires { ⌜ Room (now table) (now map) n nodes × TwiceCut (extended (wordAt (now table)) nodes (now more)) n nodes
         × Merging (extended (wordAt (now table)) nodes (now more)) (wordAt (now map)) n nodes (at .tally .count) (at .tally .last) (at .next) (at .first) (at .second)
         × Comes (extended (wordAt (now table)) nodes (now more)) (wordAt (now map)) n nodes (at .next) (at .first) (at .second) second
-            (cutNode nodes n second (front (at .first) (at .second) second)) ⌝ }
+        (cutNode nodes n second (front (at .first) (at .second) second)) ⌝ }
     ensures { λ r. ⌜ Reached (extended (wordAt (now (table .entry))) nodes (now (more .entry))) (now (map .entry)) (now (map .exit)) n nodes
-            (at .next) (r .tally .count) (r .tally .last) (r .next) (r .first) (r .second)
+        (at .next) (r .tally .count) (r .tally .last) (r .next) (r .first) (r .second)
         × Moved (at .first) (at .second) (r .first) (r .second) second ⌝ }
 {
     let v = cut_node(n, nodes, second, at.front(second));
@@ -149,12 +149,19 @@ fn number_cut(
 }
 
 // Numbers the nodes of the next level of the cuts, the one of the smaller record first, and the table's nodes before them.
-fn number_level(table: &[u8], more: &[u64; 128], map: &mut [u8], n: usize, nodes: usize, at: Progress) -> Progress
+fn number_level(
+    table: &[u8],
+    more: &[u64; 128],
+    map: &mut [u8],
+    n: usize,
+    nodes: usize,
+    at: Progress,
+) -> Progress
     requires { ⌜ Room (now table) (now map) n nodes × TwiceCut (extended (wordAt (now table)) nodes (now more)) n nodes
         × Merging (extended (wordAt (now table)) nodes (now more)) (wordAt (now map)) n nodes (at .tally .count) (at .tally .last) (at .next) (at .first) (at .second)
         × (at .second ≡ at .first) × (at .first ≤ n) ⌝ }
     ensures { λ r. ⌜ Reached (extended (wordAt (now (table .entry))) nodes (now (more .entry))) (now (map .entry)) (now (map .exit)) n nodes
-            (at .next) (r .tally .count) (r .tally .last) (r .next) (r .first) (r .second)
+        (at .next) (r .tally .count) (r .tally .last) (r .next) (r .first) (r .second)
         × (r .first ≡ at .first + 1) × (r .second ≡ at .first + 1) ⌝ }
 {
     let h = at.first;
@@ -167,8 +174,15 @@ fn number_level(table: &[u8], more: &[u64; 128], map: &mut [u8], n: usize, nodes
     number_cut(table, more, map, n, nodes, !swap, between)
 }
 
-// Numbers the nodes that are marked, and counts their new records.
-pub fn number(table: &[u8], more: &[u64; 128], map: &mut [u8], n: usize, nodes: usize, root: Edge) -> u64
+// Numbers the nodes that are marked, and counts their new records. (The root edge is for the contract.)
+pub fn number(
+    table: &[u8],
+    more: &[u64; 128],
+    map: &mut [u8],
+    n: usize,
+    nodes: usize,
+    root: Edge,
+) -> u64
     requires { ⌜ Room (now table) (now map) n nodes × TwiceCut (extended (wordAt (now table)) nodes (now more)) n nodes
         × Marked (extended (wordAt (now table)) nodes (now more)) (wordAt (now map)) (nodes + n + n) (root .value) × (root .value / 2 ≤ nodes + n + n) ⌝ }
     ensures { λ r. ⌜ Finished (extended (wordAt (now (table .entry))) nodes (now (more .entry))) (wordAt (now (map .exit))) n (nodes + n + n) r (root .value)

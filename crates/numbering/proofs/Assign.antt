@@ -2,30 +2,16 @@
 use Prim.Native.Nat.{ℕ, suc, _+_, _-_, _*_, _/_, _%_, _≤_, _<_}
 use mathlib.Core.Path.{_≡_, refl, sym, ap, ap₂, subst, _∙_}
 use mathlib.Core.Logic.{_⊎_, inl, inr}
-use mathlib.Core.Bool.{Bool, true, false, cond}
+use mathlib.Core.Bool.{Bool, true, false}
 use native.Mathlib.Omega.{arith}
-use lib.Dec.{eqb}
-use borrow.Author.Tests.{eq-eqb, ne-eqb}
-use Rattle.words.proofs.Cases.{Tri, less, same, more, tri}
-use Rattle.words.proofs.Stores.{Updated}
+use Rattle.words.proofs.Cases.{less, same, more, tri}
+use Rattle.words.proofs.Stores.{Updated, update, update-is}
 use Rattle.diagram.specs.Format.{Words, height, thenEdge, elseEdge}
 use Rattle.diagram.specs.Ordered.{Ordered}
 use Rattle.diagram.proofs.Paths.{side, side-node}
 use Rattle.numbering.specs.Renewal.{image, normal}
 use Rattle.numbering.specs.Numbered.{Good, dropped, made, Source, Numbered}
 use Rattle.numbering.proofs.Images.{image-small, image-same}
-
--- the words with word k replaced by x
-unfoldable pub update : Words → ℕ → ℕ → Words
-update w k x i = cond (eqb i k) x (w i)
-
-pub update-same : (w : Words) (k x : ℕ) → update w k x k ≡ x
-unfolding update
-update-same w k x = rw (eq-eqb k k refl)
-
-update-other : (w : Words) (k x i : ℕ) → (i ≡ k → ⊥) → update w k x i ≡ w i
-unfolding update
-update-other w k x i n = rw (ne-eqb i k n)
 
 -- Done′ is Done and node v, which was not done
 pub record Adds (Done Done′ : ℕ → Type 0) (v : ℕ) : Type 0 where
@@ -34,6 +20,7 @@ pub record Adds (Done Done′ : ℕ → Type 0) (v : ℕ) : Type 0 where
   pub new : Done′ v
   pub only : (u : ℕ) → Done′ u → (u ≡ v) ⊎ Done u
 
+-- a node stays good while records are added
 grow : {h t e x : ℕ} {L : Words} {c : ℕ} (L′ : Words) (c′ : ℕ) → c ≤ c′ → ((i : ℕ) → i ≤ c → L′ i ≡ L i) → Good h t e x L c → Good h t e x L′ c′
 grow L′ c′ l a (dropped p y) = dropped p y
 grow L′ c′ l a (made i m p y f) = made i (omega arith) p y (a (suc i) m ∙ f)
@@ -47,6 +34,7 @@ module _ (R W W′ L : Words) (n M c v x : ℕ) (Done Done′ : ℕ → Type 0) 
   abbrev e : ℕ
   e = image W (elseEdge R (suc v))
 
+  -- its own edges' images stay
   own-same : (b : Bool) → image W′ (side R b (suc v)) ≡ image W (side R b (suc v))
   own-same b = image-same W W′ (suc v) x U (side R b (suc v)) (λ q. omega (arith, side-node R n M D b v inside))
 
@@ -119,6 +107,7 @@ module _ (R W W′ L : Words) (n M c v x : ℕ) (Done Done′ : ℕ → Type 0) 
       source = λ i l. elim (tri i c) [ less q ↦ old-source i q | same q ↦ fresh-source i (omega arith) l | more q ↦ fresh-source i (omega arith) l ];
     }
 
+  -- its then-edge leads to a record
   t-lt : t < 2 * (c + 1)
   t-lt = let a = side-node R n M D true v inside in image-small W (thenEdge R (suc v)) (c + 1) (omega (arith, S .small (thenEdge R (suc v) / 2) (omega arith)))
 
@@ -145,10 +134,10 @@ module _ (R W W′ L : Words) (n M c v x : ℕ) (Done Done′ : ℕ → Type 0) 
       L′ = update L (suc c) z
 
       now : L′ (suc c) ≡ z
-      now = update-same L (suc c) z
+      now = update-is L (suc c) z .here
 
       kept : (i : ℕ) → i < suc c → L′ i ≡ L i
-      kept i m = update-other L (suc c) z i (λ p. omega arith)
+      kept i m = update-is L (suc c) z .other i (λ p. omega arith)
 
       rising : (i : ℕ) → i ≡ c → L′ i < L′ (suc i)
       rising i p = rw p (rw (now, kept c (omega arith)) l)

@@ -5,7 +5,7 @@ use mathlib.Core.Logic.{_⊎_, inl, inr}
 use native.Mathlib.Omega.{arith}
 use Rattle.diagram.specs.Format.{Words, thenEdge, elseEdge}
 use Rattle.diagram.specs.Ordered.{Ordered}
-use Rattle.numbering.specs.Numbered.{Numbered, Closed, Wanted, Marked, Alike, Going, Finished}
+use Rattle.numbering.specs.Numbered.{Numbered, Wanted, Marked, Alike, Going, Finished}
 use Rattle.numbering.proofs.Means.{renumber-under}
 use Rattle.numbering.proofs.Names.{renumber-root, renumber-proper}
 

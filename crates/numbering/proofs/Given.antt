@@ -1,12 +1,12 @@
 -- A node gets its place in the map, in the terms of the code. Assumes nothing.
 use Prim.Native.Nat.{ℕ, zero, suc, _+_, _*_, _/_, _%_, _≤_, _<_}
 use mathlib.Core.Path.{_≡_, sym, ap, _∙_}
-use mathlib.Core.Logic.{_⊎_, inl, inr}
+use mathlib.Core.Logic.{inl, inr}
 use mathlib.Core.Bool.{Bool, true, false}
 use mathlib.Core.List.{List}
 use native.Mathlib.Omega.{arith}
 use lib.ListN.{length}
-use Rattle.words.specs.Words.{wordAt, putWord}
+use Rattle.words.specs.Words.{wordAt}
 use Rattle.words.proofs.Cases.{less, same, more, tri}
 use Rattle.words.proofs.Stores.{Updated, put-updated, length-put}
 use Rattle.diagram.specs.Format.{Words, highField, middleField, lowField, height, thenEdge, elseEdge}
@@ -45,6 +45,7 @@ pub placed-count : {R W W′ : Words} {v c last c′ last′ : ℕ} → Placed R
 placed-count (left-out z e a b) = omega arith
 placed-count (placed x l U A) = assigned-count A .0
 
+-- the map's length stays
 pub gave-length : (s s′ : List ℕ) (v word flag c last c′ last′ : ℕ) → 8 * v + 8 ≤ length s → Gave s s′ v word flag c last c′ last′ → length s′ ≡ length s
 gave-length s s′ v word flag c last c′ last′ l (skipped z e a b) = ap length e
 gave-length s s′ v word flag c last c′ last′ l (stored x z f e g) = ap length e ∙ length-put s v x l
@@ -86,6 +87,7 @@ module _ (R : Words) (n M c last : ℕ) (Done : ℕ → Type 0) (D : Ordered R n
         let b = D .tall v l in
         elim (tri 0 word) [ less q ↦ q | same q ↦ absurd (unfold highField in omega (arith, w)) | more q ↦ absurd (omega arith) ]
 
+  -- the place that the code gives is the node's
   pub gave-placed : (s s′ : List ℕ) (v word flag c′ last′ : ℕ) → Going R (wordAt s) M c last Done → 0 < v → v ≤ M → 8 * v + 8 ≤ length s
       → IsKey (wordAt s) v (R v) word flag → Gave s s′ v word flag c last c′ last′ → Placed R (wordAt s) (wordAt s′) v c last c′ last′
   gave-placed s s′ zero word flag c′ last′ G p l long K g = absurd (omega arith)

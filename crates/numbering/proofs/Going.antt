@@ -1,12 +1,12 @@
 -- Numbering node by node, each the least of what is left. Assumes nothing.
 use Prim.Native.Nat.{ℕ, zero, suc, _+_, _*_, _/_, _%_, _≤_, _<_}
 use mathlib.Core.Path.{_≡_, sym, ap, subst, _∙_}
-use mathlib.Core.Logic.{_⊎_, inl, inr}
+use mathlib.Core.Logic.{inl, inr}
 use mathlib.Core.Bool.{Bool, true, false}
 use native.Mathlib.Nat.{le-refl}
 use native.Mathlib.Omega.{arith}
 use Rattle.words.proofs.Cases.{less, same, more, tri}
-use Rattle.words.proofs.Stores.{Updated}
+use Rattle.words.proofs.Stores.{Updated, update, update-is}
 use Rattle.diagram.specs.Format.{Words, highField, height, thenEdge, elseEdge}
 use Rattle.diagram.specs.Ordered.{Ordered}
 use Rattle.diagram.proofs.Paths.{side, side-height}
@@ -14,7 +14,7 @@ use Rattle.numbering.specs.Renewal.{image, renew}
 use Rattle.numbering.specs.Numbered.{Numbered, Closed, Alike, Going}
 use Rattle.numbering.proofs.Images.{image-same, renew-node}
 use Rattle.numbering.proofs.Renumber.{renew-high}
-use Rattle.numbering.proofs.Assign.{Adds, update, update-same, assign-dropped, assign-repeated, assign-new}
+use Rattle.numbering.proofs.Assign.{Adds, assign-dropped, assign-repeated, assign-new}
 
 -- the place x, the count c′ and the last record last′ after a node whose edges become t and e and whose record is z
 pub data Assigned (t e z c last x c′ last′ : ℕ) : Type 0 where
@@ -51,9 +51,11 @@ module _ (R W W′ : Words) (n M c last v x c′ last′ : ℕ) (Done Done′ : 
   abbrev z : ℕ
   z = renew W (R (suc v))
 
+  -- no node that is done leads to it
   alone : (u : ℕ) → u < M → 0 < W (suc u) → Done (suc u) → (b : Bool) → side R b (suc u) / 2 ≡ suc v → ⊥
   alone u l k d b q = A .fresh (subst (λ (a : ℕ). Done a) q (below-side R W M c last Done G u l k d b))
 
+  -- its record has its height
   high : highField z ≡ height R (suc v)
   high = renew-high R W (G .list) n M c Done D (G .closed) S (omega arith) v inside
 
@@ -99,6 +101,7 @@ module _ (R W W′ : Words) (n M c last v x c′ last′ : ℕ) (Done Done′ : 
       ahead = ahead′;
     })
 
+  -- whichever place it is
   pub step : Assigned (image W (thenEdge R (suc v))) (image W (elseEdge R (suc v))) z c last x c′ last′ → Going R W′ M c′ last′ Done′
   step (equal-edges q y a b) =
       goes (G .list) c last (assign-dropped R W W′ (G .list) n M c v x Done Done′ D S inside U A alone q y) (omega arith) (omega arith) (G .latest) (G .ahead v inside live (A .fresh)) a b
@@ -111,7 +114,7 @@ module _ (R W W′ : Words) (n M c last v x c′ last′ : ℕ) (Done Done′ : 
       nonzero (suc i) e = omega arith
   step (another q p y a b) =
       goes (update (G .list) (suc c) z) (suc c) z (rw (renew-node R W v) (assign-new R W W′ (G .list) n M c v x Done Done′ D S inside U A alone q (rw (← (renew-node R W v)) above) y))
-      (omega arith) (omega arith) (update-same (G .list) (suc c) z) (le-refl z) a b
+      (omega arith) (omega arith) (update-is (G .list) (suc c) z .here) (le-refl z) a b
     where
       above : G .list c < z
       above = let a = G .ahead v inside live (A .fresh) in elim (tri (G .list c) z) [ less r ↦ r | same r ↦ absurd (p (sym r ∙ G .latest)) | more r ↦ absurd (omega (arith, G .latest)) ]

@@ -1,6 +1,6 @@
 -- What edges and records become under a map: their nodes, their fields and their bounds. Assumes nothing.
 use Prim.Native.Nat.{ℕ, zero, suc, _+_, _-_, _*_, _/_, _%_, _<_}
-use mathlib.Core.Path.{_≡_, refl, sym, ap, _∙_}
+use mathlib.Core.Path.{_≡_, refl, ap, _∙_}
 use mathlib.Core.Bool.{Bool, true, false, cond, Bool·not-not}
 use native.Mathlib.Omega.{arith}
 use Rattle.words.proofs.Stores.{Updated}
@@ -78,6 +78,7 @@ pub renew-as : (R W W′ : Words) (v : ℕ) → ((b : Bool) → W′ (side R b v
 unfolding renew thenEdge elseEdge
 renew-as R W W′ v s = rw (image-as W W′ (middleField (R v)) (s true), image-as W W′ (lowField (R v)) (s false))
 
+-- turned twice
 flip-twice : (f : ℕ) → (b : Bool) → flip f (flip f b) ≡ b
 unfolding flip
 flip-twice zero b = refl

@@ -1,13 +1,13 @@
 -- A node's new record, and what the node is given, in the terms of the code. Assumes nothing.
 use Prim.Native.Nat.{ℕ, zero, suc, _+_, _-_, _*_, _/_, _%_, _≤_, _<_}
-use mathlib.Core.Path.{_≡_, refl, sym, ap, ap₂, _∙_}
+use mathlib.Core.Path.{_≡_, refl, sym, _∙_}
 use mathlib.Core.Bool.{Bool, true, false}
 use mathlib.Core.List.{List}
 use native.Mathlib.Omega.{arith}
 use lib.Dec.{eqb}
 use lib.ListN.{length}
 use Rattle.words.specs.Words.{wordAt, putWord}
-use Rattle.diagram.specs.Format.{Words, highField, middleField, lowField, thenEdge, elseEdge}
+use Rattle.diagram.specs.Format.{Words, middleField, lowField, thenEdge, elseEdge}
 use Rattle.diagram.specs.Count.{indicator}
 use Rattle.diagram.specs.Reading.{HasFields, turn, recordOf}
 use Rattle.diagram.proofs.Paths.{side-node}
@@ -45,6 +45,7 @@ module _ (map : List ℕ) (v z h t e a b d : ℕ) (f : Bool) (N : Renewable map 
   abbrev W : Words
   W = wordAt map
 
+  -- d as its definition has it
   turned : d ≡ turn (a % 2) b
   turned = d-is ∙ rw (f-is, flag-is (a % 2) (omega arith))
 
@@ -54,9 +55,11 @@ module _ (map : List ℕ) (v z h t e a b d : ℕ) (f : Bool) (N : Renewable map 
   b-small : b < 536870912
   b-small = rw (b-is, F .low-is) (image-small W (lowField z) 268435456 (omega (arith, N .else-small)))
 
+  -- the fields fit a word
   pub key-fits : (h ≤ 63) × (2 * (a / 2) < 536870912) × (d < 536870912)
   key-fits = (F .high-fits, omega (arith, a-small), rw turned (turn-lt (a % 2) b 268435456 b-small))
 
+  -- the word of these fields is the key
   pub key-is : (word : ℕ) → 0 < W v → word ≡ recordOf h (2 * (a / 2)) d → IsKey W v z word (a % 2)
   unfolding renew normal
   key-is word live q = record {
@@ -70,20 +73,25 @@ module _ (map : List ℕ) (v z h t e a b d : ℕ) (f : Bool) (N : Renewable map 
 pub key-dead : (W : Words) (v z m : ℕ) → m ≡ W v → m ≡ 0 → IsKey W v z 0 0
 key-dead W v z m p q = record { dead = λ k. refl; word-is = λ k. absurd (omega arith); flag-is = λ k. absurd (omega arith); flag-low = omega arith }
 
+-- an edge of a record fits its field
 pub field-small : (word h t e : ℕ) → HasFields word h t e → t < 536870912
 unfolding middleField
 field-small word h t e F = omega (arith, F .middle-is)
 
 -- a node with the new record `word` of fields h, t and e
 module _ (map map′ : List ℕ) (v word flag count last h t e : ℕ) (some : word ≡ 0 → ⊥) (F : HasFields word h t e) (low : flag < 2) (few : count < 268435454) where
+  -- its edges are equal
   pub gave-edge : t ≡ e → map′ ≡ putWord map v (1 + t + flag) → Gave map map′ v word flag count last count last
   gave-edge q p = stored (1 + t + flag) some (omega (arith, field-small word h t e F)) p (given-edge (sym (F .middle-is) ∙ q ∙ F .low-is) (omega (arith, F .middle-is)) refl refl)
 
+  -- they are not, as fields
   differ : (t ≡ e → ⊥) → middleField word ≡ lowField word → ⊥
   differ n q = n (F .middle-is ∙ q ∙ sym (F .low-is))
 
+  -- its record is the last one
   pub gave-last : (t ≡ e → ⊥) → word ≡ last → map′ ≡ putWord map v (1 + 2 * count + flag) → Gave map map′ v word flag count last count last
   gave-last n q p = stored (1 + 2 * count + flag) some (omega arith) p (given-last (differ n) q refl refl (sym q))
 
+  -- its record is new
   pub gave-new : (t ≡ e → ⊥) → (word ≡ last → ⊥) → map′ ≡ putWord map v (3 + 2 * count + flag) → Gave map map′ v word flag count last (count + 1) word
   gave-new n q p = stored (3 + 2 * count + flag) some (omega arith) p (given-new (differ n) q refl refl refl)

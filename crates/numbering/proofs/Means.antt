@@ -14,6 +14,7 @@ use Rattle.numbering.specs.Numbered.{Good, dropped, made, Numbered, Clos
 use Rattle.numbering.proofs.Images.{image-side, node-turned}
 use Rattle.numbering.proofs.Renumber.{closed-side, made-height, made-side, renumber-reduced}
 
+-- one edge for both sides
 cond-same : (b : Bool) (t e : ℕ) → t ≡ e → t ≡ cond b t e
 cond-same true t e q = refl
 cond-same false t e q = q
@@ -50,6 +51,7 @@ module _ (R W L : Words) (n M c : ℕ) (Done : ℕ → Type 0) (D : Ordered R n 
           ap (λ (a : ℕ). under L a x) z
           ∙ node-turned L n c (renumber-reduced R W L n M c Done D C S few all .ordered) (height R (suc v)) t e i l (made-height R W L n M c Done D C S few i v m f) (made-side R W L n M c Done D C S few i v m f) x
 
+  -- an edge means what it meant
   pub renumber-under : (e x : ℕ) → e / 2 ≤ M → 0 < W (e / 2) → under L (image W e) x ≡ under R e x
   unfolding image
   renumber-under e x l k =

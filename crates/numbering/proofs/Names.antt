@@ -1,5 +1,5 @@
 -- A numbered diagram is proper: the new root leads to the last record, and every other record is named. Assumes nothing.
-use Prim.Native.Nat.{ℕ, zero, suc, _+_, _-_, _*_, _/_, _%_, _≤_, _<_}
+use Prim.Native.Nat.{ℕ, zero, suc, _+_, _-_, _/_, _≤_, _<_}
 use mathlib.Core.Path.{_≡_, refl, sym, ap, subst, _∙_}
 use mathlib.Core.Logic.{_⊎_, inl, inr}
 use mathlib.Core.Bool.{Bool, true, false}
@@ -8,7 +8,7 @@ use Rattle.diagram.specs.Format.{Words, height, thenEdge, elseEdge}
 use Rattle.diagram.specs.Ordered.{Ordered, Proper}
 use Rattle.diagram.proofs.Paths.{side, side-node}
 use Rattle.numbering.specs.Renewal.{image}
-use Rattle.numbering.specs.Numbered.{Good, dropped, made, Source, Numbered, Closed, Wanted}
+use Rattle.numbering.specs.Numbered.{Good, dropped, made, Numbered, Closed, Wanted}
 use Rattle.numbering.proofs.Images.{image-node}
 use Rattle.numbering.proofs.Renumber.{image-inside, made-node, renumber-reduced}
 
@@ -51,6 +51,7 @@ module _ (R W L : Words) (n M c : ℕ) (Done : ℕ → Type 0) (D : Ordered R n 
       | inr q ↦ let s = by-side R (suc (q .0)) (suc v) (q .3) in by (q .0) (s .0) (q .1) (q .2) (s .1)
     ]
 
+  -- so they all are, from the greatest down
   image-named : (d v : ℕ) → M ≤ v + d → v < M → 0 < W (suc v) → NamedOr ((W (suc v) - 1) / 2)
   image-named zero v l m k = absurd (omega arith)
   image-named (suc d) v l m k = next-named v m k (λ j p q i. image-named d j (omega arith) q i)
@@ -76,6 +77,7 @@ module _ (R W L : Words) (n M c : ℕ) (Done : ℕ → Type 0) (D : Ordered R n 
             absurd (omega (arith, s .1, side-node L n c (renumber-reduced R W L n M c Done D C S few all .ordered) (s .0) (p .0) (p .1)))
       ]
 
+  -- so every other record is named
   pub renumber-proper : Proper L n c
   renumber-proper = record {
     reduced = renumber-reduced R W L n M c Done D C S few all;

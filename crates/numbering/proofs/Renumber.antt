@@ -24,6 +24,7 @@ module _ (R W L : Words) (n M c : ℕ) (Done : ℕ → Type 0) (D : Ordered R n 
   abbrev new : Bool → ℕ → ℕ
   new b k = image W (side R b (suc k))
 
+  -- images lead to the records
   pub image-lt : (e : ℕ) → e / 2 ≤ M → image W e < 2 * (c + 1)
   image-lt e l = image-small W e (c + 1) (omega (arith, S .small (e / 2) l))
 
@@ -47,6 +48,7 @@ module _ (R W L : Words) (n M c : ℕ) (Done : ℕ → Type 0) (D : Ordered R n 
     pub made-node : (b : Bool) → side L b (suc i) / 2 ≡ new b v / 2
     made-node b = ap (λ (z : ℕ). z / 2) (made-side b) ∙ turn-node (new true v % 2) (cond b (new true v) (new false v)) ∙ ap (λ (z : ℕ). z / 2) (image-side R W (suc v) b)
 
+  -- the records ascend
   ascending : (i j : ℕ) → i < j → j ≤ c → L i < L j
   ascending i zero l m = absurd (omega arith)
   ascending i (suc j) l m =

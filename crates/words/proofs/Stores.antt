@@ -1,10 +1,13 @@
 -- A stored word reads back, and the others stay. Assumes nothing.
 use Prim.Native.Nat.{ℕ, zero, suc, _+_, _-_, _*_, _^_, _≤_, _<_}
 use mathlib.Core.Path.{_≡_, refl, sym, ap, ap₂, subst, _∙_}
+use mathlib.Core.Bool.{cond}
 use mathlib.Core.List.{List, _++_, append-assoc}
 use native.Mathlib.Omega.{arith}
+use lib.Dec.{eqb}
 use lib.ListN.{length, getD, take, drop, length-append, length-drop, List·getD-append}
 use lib.Seq.{getD-append-add, length-take-le, getD-take, getD-drop}
+use borrow.Author.Tests.{eq-eqb, ne-eqb}
 use Rattle.words.specs.Words.{beAt, wordAt, bytesOf, putWord}
 use Rattle.words.proofs.Cases.{less, same, more, tri}
 use Rattle.words.proofs.Laws.{length-bytesOf, word-in}
@@ -14,6 +17,14 @@ pub record Updated (W W′ : ℕ → ℕ) (k x : ℕ) : Type 0 where
   pub here : W′ k ≡ x
   pub other : (i : ℕ) → (i ≡ k → ⊥) → W′ i ≡ W i
 
+-- such words
+unfoldable pub update : (ℕ → ℕ) → ℕ → ℕ → ℕ → ℕ
+update W k x i = cond (eqb i k) x (W i)
+
+pub update-is : (W : ℕ → ℕ) (k x : ℕ) → Updated W (update W k x) k x
+unfolding update
+update-is W k x = record { here = rw (eq-eqb k k refl); other = λ i n. rw (ne-eqb i k n) }
+
 -- equal bytes are equal words
 be-cong : (a b : List ℕ) (at i : ℕ) → ((j : ℕ) → at ≤ j → j < at + i → getD a j 0 ≡ getD b j 0) → beAt a at i ≡ beAt b at i
 unfolding beAt
@@ -21,13 +32,16 @@ be-cong a b at zero f = refl
 be-cong a b at (suc i) f = ap₂ (λ (x y : ℕ). 256 * x + y) (be-cong a b at i (λ j l m. f j l (omega arith))) (f (at + i) (omega arith) (omega arith))
 
 module _ (s : List ℕ) (k v : ℕ) (long : 8 * k + 8 ≤ length s) where
+  -- the bytes up to the end of the word
   front : length (take (8 * k) s ++ bytesOf 8 v) ≡ 8 * k + 8
   front = length-append (take (8 * k) s) (bytesOf 8 v) ∙ ap₂ _+_ (length-take-le (8 * k) s (omega arith)) (length-bytesOf 8 v)
 
+  -- the length stays
   pub length-put : length (putWord s k v) ≡ length s
   unfolding putWord
   length-put = length-append (take (8 * k) s ++ bytesOf 8 v) (drop (8 * k + 8) s) ∙ omega (arith, front, length-drop (8 * k + 8) s)
 
+  -- so do the bytes before the word, and behind it
   byte-low : (j : ℕ) → j < 8 * k → getD (putWord s k v) j 0 ≡ getD s j 0
   unfolding putWord
   byte-low j l =
@@ -40,6 +54,7 @@ module _ (s : List ℕ) (k v : ℕ) (long : 8 * k + 8 ≤ length s) where
   byte-high i =
       ap (λ (m : ℕ). getD (putWord s k v) (m + i) 0) (sym front) ∙ getD-append-add (take (8 * k) s ++ bytesOf 8 v) (drop (8 * k + 8) s) i 0 ∙ getD-drop (8 * k + 8) s i 0
 
+  -- so do the other words
   word-other : (i : ℕ) → (i ≡ k → ⊥) → wordAt (putWord s k v) i ≡ wordAt s i
   unfolding wordAt
   word-other i n = be-cong (putWord s k v) s (8 * i) 8 (λ j l m. elim (tri i k) [
@@ -48,9 +63,11 @@ module _ (s : List ℕ) (k v : ℕ) (long : 8 * k + 8 ≤ length s) where
     | more q ↦ let e : 8 * k + 8 + (j - (8 * k + 8)) ≡ j = omega arith in subst (λ (b : ℕ). getD (putWord s k v) b 0 ≡ getD s b 0) e (byte-high (j - (8 * k + 8)))
   ])
 
+  -- the word reads back
   word-same : v < 2 ^ 64 → wordAt (putWord s k v) k ≡ v
   unfolding putWord
   word-same l = rw append-assoc (word-in (take (8 * k) s) (drop (8 * k + 8) s) k v (length-take-le (8 * k) s (omega arith)) l)
 
+  -- both at once
   pub put-updated : v < 2 ^ 64 → Updated (wordAt s) (wordAt (putWord s k v)) k v
   put-updated l = record { here = word-same l; other = word-other }

@@ -1,8 +1,7 @@
 -- `merging::number` meets its contract. The loop's invariant: the levels of the cuts below `first` are numbered. Assumes nothing.
-use Prim.Native.Nat.{_+_, _-_, _≤_}
+use Prim.Native.Nat.{_+_, _-_}
 use mathlib.Core.Path.{_≡_, refl, _∙_}
 use native.Mathlib.Omega.{arith}
-use borrow.Author.Needs.{needs}
 use Rattle.words.specs.Words.{wordAt}
 use Rattle.cutting.specs.Cut.{extended}
 use Rattle.merging.specs.Inner.{Reached}

@@ -4,7 +4,8 @@ use mathlib.Core.Bool.{true, false}
 use native.Mathlib.Omega.{arith}
 use borrow.Author.Needs.{needs}
 use Rattle.merging.specs.Inner.{cutNode}
-use Rattle.merging.proofs.Merge.{cut-inside, merging-keyed}
+use Rattle.merging.proofs.Lists.{cut-inside}
+use Rattle.merging.proofs.Merge.{merging-keyed}
 use Rattle.merging.proofs.Cuts.{cut-limits, give-few, cut-reached}
 use Rattle.merging.proofs.number_cut.Statement.{statement}
 use Rattle.merging.proofs.number_cut.Tie as tie
@@ -44,9 +45,11 @@ returns c =
     let e = c .before .before .before .before .before .before .before .before .before .before .before .cut-node .ensures ∙ ap (cutNode (a .args .nodes) (a .args .n) (a .args .second)) (c .before .before .before .before .before .before .before .before .before .before .before .before .front .ensures) in
     let t = c .before .before .before .before .before .before .before .number-table .ensures in
     let m = c .moved .ensures in
-    let T = rw (t .1, t .2) at (m .1) in
-    (rw (m .0, m .2, m .3) (cut-reached _ _ _ _ _ _ _ _ _ _ _ _ _ (a .pre .1) (a .pre .2) (a .pre .0 .few-settings) (a .pre .0 .few-nodes) (a .pre .3) e (c .before .before .before .before .before .before .before .before .before .key-in .ensures) _ _ _ _ (t .0)
-    _ _ _ _ _ (a .pre .0 .map-long) (c .before .before .before .give .ensures) T), T)
+    let T = rw (t .1, t .2) at (m .1) in (
+      rw (m .0, m .2, m .3) (cut-reached _ _ _ _ _ _ _ _ _ _ _ _ _ (a .pre .1) (a .pre .2) (a .pre .0 .few-settings) (a .pre .0 .few-nodes) (a .pre .3) e (c .before .before .before .before .before .before .before .before .before .key-in .ensures) _ _ _ _ (t .0)
+          _ _ _ _ _ (a .pre .0 .map-long) (c .before .before .before .give .ensures) T),
+      T,
+    )
 
 pub number-cut-spec : {M : Type 1} → statement M
 number-cut-spec =

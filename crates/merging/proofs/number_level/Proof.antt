@@ -4,7 +4,8 @@ use mathlib.Core.Bool.{true, false}
 use native.Mathlib.Omega.{arith}
 use borrow.Author.Needs.{needs}
 use Rattle.merging.specs.Inner.{cutNode}
-use Rattle.merging.proofs.Merge.{cut-inside, merging-keyed}
+use Rattle.merging.proofs.Lists.{cut-inside}
+use Rattle.merging.proofs.Merge.{merging-keyed}
 use Rattle.merging.proofs.Levels.{level-limits, comes-first, comes-next, moved-both}
 use Rattle.merging.proofs.Ends.{room-same, passed-as, reached-trans}
 use Rattle.merging.proofs.number_level.Statement.{statement}
@@ -23,38 +24,50 @@ key-in-requires c κs =
     let a = c .before .before .before .before .before .before .before .before in
     let p = a .pre in
     let t = c .before .before .before .before .number-table .ensures .0 .passing .reached in
-    let i = cut-inside _ _ _ (p .1) false _ (p .4) in
-    (room-same (p .0) (t .same-length), merging-keyed _ _ _ _ _ _ _ _ _ (p .1) (t .merging) (p .0 .few-settings) (p .0 .few-nodes),
-    omega (arith, c .cut-node .ensures, i .0, p .2 .fronts .low false), omega (arith, c .cut-node .ensures, i .1))
+    let i = cut-inside _ _ _ (p .1) false _ (p .4) in (
+      room-same (p .0) (t .same-length),
+      merging-keyed _ _ _ _ _ _ _ _ _ (p .1) (t .merging) (p .0 .few-settings) (p .0 .few-nodes),
+      omega (arith, c .cut-node .ensures, i .0, p .2 .fronts .low false),
+      omega (arith, c .cut-node .ensures, i .1),
+    )
 
 key-in-requires-2 : tie.Need-key-in-requires-2
 key-in-requires-2 c κs =
     let a = c .before .before .before .before .before .before .before .before .before .before .before in
     let p = a .pre in
     let t = c .before .before .before .before .before .before .before .number-table .ensures .0 .passing .reached in
-    let i = cut-inside _ _ _ (p .1) true _ (p .4) in
-    (room-same (p .0) (t .same-length), merging-keyed _ _ _ _ _ _ _ _ _ (p .1) (t .merging) (p .0 .few-settings) (p .0 .few-nodes),
-    omega (arith, c .cut-node2 .ensures, i .0, p .2 .fronts .low false), omega (arith, c .cut-node2 .ensures, i .1))
+    let i = cut-inside _ _ _ (p .1) true _ (p .4) in (
+      room-same (p .0) (t .same-length),
+      merging-keyed _ _ _ _ _ _ _ _ _ (p .1) (t .merging) (p .0 .few-settings) (p .0 .few-nodes),
+      omega (arith, c .cut-node2 .ensures, i .0, p .2 .fronts .low false),
+      omega (arith, c .cut-node2 .ensures, i .1),
+    )
 
 number-cut-requires : tie.Need-number-cut-requires
 number-cut-requires c κs =
     let a = c .before .before .before .before .before .before .before .before .before .before .before .before .before .before .before in
     let p = a .pre in
     let t = c .before .before .before .before .before .before .before .before .before .before .before .number-table .ensures in
-    let P = passed-as (t .1) (t .2) (t .0) in
-    (room-same (p .0) (P .passing .reached .same-length), p .1, P .passing .reached .merging,
-    comes-first _ _ _ _ _ _ _ _ _ _ _ _ (p .1) (p .0 .few-settings) (p .0 .few-nodes) (t .2 ∙ p .3 ∙ sym (t .1)) (omega (arith, t .1, p .4)) (omega (arith, t .1)) P _ _ _ _ _ _ _
-    (c .before .before .before .before .before .before .before .cut-node .ensures ∙ ap (cutNode (a .args .nodes) (a .args .n) false) (sym (t .1))) (c .before .before .before .before .before .before .key-in .ensures)
-    (c .before .before .before .before .cut-node2 .ensures ∙ ap (cutNode (a .args .nodes) (a .args .n) true) (sym (t .1))) (c .before .before .before .key-in2 .ensures) refl)
+    let P = passed-as (t .1) (t .2) (t .0) in (
+      room-same (p .0) (P .passing .reached .same-length),
+      p .1,
+      P .passing .reached .merging,
+      comes-first _ _ _ _ _ _ _ _ _ _ _ _ (p .1) (p .0 .few-settings) (p .0 .few-nodes) (t .2 ∙ p .3 ∙ sym (t .1)) (omega (arith, t .1, p .4)) (omega (arith, t .1)) P _ _ _ _ _ _ _
+          (c .before .before .before .before .before .before .before .cut-node .ensures ∙ ap (cutNode (a .args .nodes) (a .args .n) false) (sym (t .1))) (c .before .before .before .before .before .before .key-in .ensures)
+          (c .before .before .before .before .cut-node2 .ensures ∙ ap (cutNode (a .args .nodes) (a .args .n) true) (sym (t .1))) (c .before .before .before .key-in2 .ensures) (search needs),
+    )
 
 number-cut-requires-2 : tie.Need-number-cut-requires-2
 number-cut-requires-2 c κs =
     let p = c .before .before .before .before .before .before .before .before .before .before .before .before .before .before .before .before .before .before .before .pre in
     let t = c .before .before .before .before .before .before .before .before .before .before .before .before .before .before .before .number-table .ensures in
     let P = passed-as (t .1) (t .2) (t .0) in
-    let m = c .before .before .before .number-cut .ensures in
-    (room-same (p .0) (m .0 .same-length ∙ P .passing .reached .same-length), p .1, m .0 .merging,
-    comes-next _ _ _ _ _ _ _ _ _ _ _ _ (p .1) (p .0 .few-settings) (p .0 .few-nodes) (t .2 ∙ p .3 ∙ sym (t .1)) (omega (arith, t .1, p .4)) (omega (arith, t .1)) P _ _ _ _ _ _ _ (m .0 .ahead) (m .1) (m .0 .merging))
+    let m = c .before .before .before .number-cut .ensures in (
+      room-same (p .0) (m .0 .same-length ∙ P .passing .reached .same-length),
+      p .1,
+      m .0 .merging,
+      comes-next _ _ _ _ _ _ _ _ _ _ _ _ (p .1) (p .0 .few-settings) (p .0 .few-nodes) (t .2 ∙ p .3 ∙ sym (t .1)) (omega (arith, t .1, p .4)) (omega (arith, t .1)) P _ _ _ _ _ _ _ (m .0 .ahead) (m .1) (m .0 .merging),
+    )
 
 same-length : tie.Need-same-length
 same-length c = c .before .before .number-cut2 .ensures .0 .same-length ∙ c .before .before .before .before .before .before .number-cut .ensures .0 .same-length ∙ c .before .before .before .before .before .before .before .before .before .before .before .before .before .before .before .before .before .before .number-table .ensures .0 .passing .reached .same-length

@@ -1,8 +1,7 @@
 -- `merging::number_table` meets its contract. The loop's invariant: the table's nodes before `next` are numbered, and the next record is at hand. Assumes nothing.
-use Prim.Native.Nat.{ℕ, _+_, _-_, _*_, _≤_, _<_}
+use Prim.Native.Nat.{_+_, _-_, _≤_}
 use mathlib.Core.Path.{_≡_, refl, ap, _∙_}
 use native.Mathlib.Omega.{arith}
-use borrow.Author.Needs.{needs}
 use Rattle.words.specs.Words.{wordAt}
 use Rattle.words.proofs.Laws.{word-fits}
 use Rattle.numbering.proofs.Keys.{keyed-renewable}
@@ -59,9 +58,11 @@ give-requires : tie.Need-give-requires Inv-loop μ-loop
 give-requires c κs =
     let a = c .before .before .before .before .before .before .before .before .before .before .before .before in
     let i = c .before .before .before .before .before .before .before .loop in
-    let l = c .before .before .before .before .before .before .loop-test .taken in
-    (omega (arith, a .pre .0 .map-long, i .inv .0 .reached .same-length), c .before .before .before .key-of .ensures .flag-low,
-    omega (arith, a .pre .0 .few-settings, a .pre .0 .few-nodes, few-records _ _ _ _ _ _ _ _ _ (a .pre .1) (i .inv .0 .reached .merging)))
+    let l = c .before .before .before .before .before .before .loop-test .taken in (
+      omega (arith, a .pre .0 .map-long, i .inv .0 .reached .same-length),
+      c .before .before .before .key-of .ensures .flag-low,
+      omega (arith, a .pre .0 .few-settings, a .pre .0 .few-nodes, few-records _ _ _ _ _ _ _ _ _ (a .pre .1) (i .inv .0 .reached .merging)),
+    )
 
 add-next : tie.Need-add-next Inv-loop μ-loop
 add-next c = omega (arith, c .before .before .before .before .before .before .before .before .before .loop-test .taken, c .before .before .before .before .before .before .before .before .before .before .before .before .before .before .before .pre .0 .few-nodes)
@@ -73,9 +74,11 @@ loop-again : tie.Need-loop-again Inv-loop μ-loop
 loop-again c =
     let a = c .before .before .before .before .before .before .before .before .before .before .before .before .before .before .before in
     let i = c .before .before .before .before .before .before .before .before .before .before .loop in
-    let l = c .before .before .before .before .before .before .before .before .before .loop-test .taken in
-    (turn-next _ _ _ _ _ _ _ _ _ _ _ _ _ _ _ (a .pre .1) (i .inv .0) (a .pre .0 .few-settings) (a .pre .0 .few-nodes) l (extended-low _ _ _ _ _ l (i .inv .1 l)) (c .before .before .before .before .before .before .key-of .ensures)
-    _ _ _ (omega (arith, a .pre .0 .map-long, i .inv .0 .reached .same-length)) (omega (arith, c .before .before .before .before .if1 .left)) (c .before .before .give .ensures), λ m. c .before .before .before .before .before .before .before .before .word-after2 .ensures (omega arith))
+    let l = c .before .before .before .before .before .before .before .before .before .loop-test .taken in (
+      turn-next _ _ _ _ _ _ _ _ _ _ _ _ _ _ _ (a .pre .1) (i .inv .0) (a .pre .0 .few-settings) (a .pre .0 .few-nodes) l (extended-low _ _ _ _ _ l (i .inv .1 l)) (c .before .before .before .before .before .before .key-of .ensures)
+          _ _ _ (omega (arith, a .pre .0 .map-long, i .inv .0 .reached .same-length)) (omega (arith, c .before .before .before .before .if1 .left)) (c .before .before .give .ensures),
+      λ m. c .before .before .before .before .before .before .before .before .word-after2 .ensures (omega arith),
+    )
 
 returns-2 : tie.Need-returns-2 Inv-loop μ-loop
 returns-2 c = (turn-end _ _ _ _ _ _ _ _ _ _ _ _ (c .before .loop .inv .0) (omega (arith, c .loop-test .left)), refl, refl)
