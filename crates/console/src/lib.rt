@@ -1,13 +1,17 @@
 // The setup book for a C program: numbers and byte memory in, one packed number out. include/setupbook.h declares these functions.
 ghost use mathlib.Core.Path.{_≡_};
 ghost use Prim.Native.Nat.{ℕ};
+ghost use lib.ListN.{length};
 ghost use Rattle.rules.specs.Packed.{packed};
 ghost use Rattle.checking.specs.Operations.{sheetAfter};
 ghost use Rattle.ranking.specs.Operations.{ranking, unranking};
+ghost use Rattle.tables.specs.Writing.{lengthOf};
+ghost use Rattle.parts.specs.Operations.{partWriting, Promise};
 use diagram::Rank;
 use diagram::Setup;
 use ranking::Ranked;
 use ranking::Unranked;
+use writing::Written;
 
 // The rank of a setup.
 #[no_mangle]
@@ -32,5 +36,19 @@ pub extern "C" fn setupbook_unrank(table: &[u8], rank: u64, sheet: &mut [u8]) ->
     match unranked {
         Unranked::To(x) => x.0,
         Unranked::Refused(r) => rules::pack_refusal(r),
+    }
+}
+
+// A part of a division, written: how many bytes.
+#[no_mangle]
+pub extern "C" fn setupbook_part_write(table: &[u8], k: u64, j: u64, sheet: &mut [u8], out: &mut [u8]) -> u64
+    ensures { λ r. ⌜ (r ≡ packed (λ (v : ℕ). v) (lengthOf (partWriting (now (table .entry)) k j (now (sheet .entry)) (length (now (out .entry))))))
+        × Promise (now (table .entry)) k j (now (sheet .entry)) (now (out .entry))
+            (lengthOf (partWriting (now (table .entry)) k j (now (sheet .entry)) (length (now (out .entry))))) (now (sheet .exit)) (now (out .exit)) ⌝ }
+{
+    let written = parts::part_write(table, k, j, sheet, out);
+    match written {
+        Written::Bytes(m) => m as u64,
+        Written::Refused(r) => rules::pack_refusal(r),
     }
 }
