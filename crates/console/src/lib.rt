@@ -41,10 +41,16 @@ pub extern "C" fn setupbook_unrank(table: &[u8], rank: u64, sheet: &mut [u8]) ->
 
 // A part of a division, written: how many bytes.
 #[no_mangle]
-pub extern "C" fn setupbook_part_write(table: &[u8], k: u64, j: u64, sheet: &mut [u8], out: &mut [u8]) -> u64
+pub extern "C" fn setupbook_part_write(
+    table: &[u8],
+    k: u64,
+    j: u64,
+    sheet: &mut [u8],
+    out: &mut [u8],
+) -> u64
     ensures { λ r. ⌜ (r ≡ packed (λ (v : ℕ). v) (lengthOf (partWriting (now (table .entry)) k j (now (sheet .entry)) (length (now (out .entry))))))
         × Promise (now (table .entry)) k j (now (sheet .entry)) (now (out .entry))
-            (lengthOf (partWriting (now (table .entry)) k j (now (sheet .entry)) (length (now (out .entry))))) (now (sheet .exit)) (now (out .exit)) ⌝ }
+        (lengthOf (partWriting (now (table .entry)) k j (now (sheet .entry)) (length (now (out .entry))))) (now (sheet .exit)) (now (out .exit)) ⌝ }
 {
     let written = parts::part_write(table, k, j, sheet, out);
     match written {

@@ -44,7 +44,16 @@ fn write_extent(
     let hi = ranking::descend(table, sheet, n, root, Rank(last));
     let begin = 8 * (nodes + 1);
     let end = 8 * (4 * nodes + 512);
-    writing::write_between(table, &mut sheet[begin..end], out, n as usize, nodes, root, lo, hi)
+    writing::write_between(
+        table,
+        &mut sheet[begin..end],
+        out,
+        n as usize,
+        nodes,
+        root,
+        lo,
+        hi,
+    )
 }
 
 // Writes part j of k of the table as a table of its own, into the beginning of the out memory.
@@ -59,7 +68,15 @@ pub fn part_write(table: &[u8], k: u64, j: u64, sheet: &mut [u8], out: &mut [u8]
     let c = counting::count_under(table, sheet, header.root, header.settings);
     let spanned = division::span_of(k, j, c);
     match spanned {
-        Spanned::Part(extent) => write_extent(table, sheet, out, header.settings, header.nodes, header.root, extent),
+        Spanned::Part(extent) => write_extent(
+            table,
+            sheet,
+            out,
+            header.settings,
+            header.nodes,
+            header.root,
+            extent,
+        ),
         Spanned::Refused(r) => Written::Refused(r),
     }
 }

@@ -3,7 +3,6 @@ mod descent;
 mod smaller;
 
 pub use descent::descend;
-
 ghost use mathlib.Core.Path.{_≡_};
 ghost use Rattle.words.specs.Words.{wordAt};
 ghost use Rattle.diagram.specs.Meaning.{under};

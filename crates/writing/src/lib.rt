@@ -40,7 +40,7 @@ fn build(
     requires { ⌜ Room (now table) (now map) n nodes × Reduced (wordAt (now table)) n nodes × (root .value / 2 ≤ nodes)
         × (lo .0 < 2 ^ n) × (hi .0 < 2 ^ n) × (length (now more) ≡ 128) ⌝ }
     ensures { λ r. ⌜ IsBuilt (wordAt (now (table .entry))) n nodes (root .value) (lo .0) (hi .0)
-            (extended (wordAt (now (table .entry))) nodes (now (more .exit))) (wordAt (now (map .exit))) (r .records) (r .edge .value)
+        (extended (wordAt (now (table .entry))) nodes (now (more .exit))) (wordAt (now (map .exit))) (r .records) (r .edge .value)
         × (length (now (map .exit)) ≡ length (now (map .entry))) ⌝ }
 {
     let lower = cutting::add_cut(table, more, n, nodes, 0, root, lo, true);
@@ -74,7 +74,16 @@ pub fn write_between(
     if out.len() < end {
         return Written::Refused(Refusal::Out);
     }
-    emitting::write_table(table, &more, map, &mut out[..end], n, nodes, count, built.edge);
+    emitting::write_table(
+        table,
+        &more,
+        map,
+        &mut out[..end],
+        n,
+        nodes,
+        count,
+        built.edge,
+    );
     Written::Bytes(end)
 }
 
