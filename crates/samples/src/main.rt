@@ -10,6 +10,7 @@ use libc::STDOUT_FILENO;
 use ranking::Ranked;
 use ranking::Unranked;
 use rules::Refusal;
+use writing::Written;
 
 // Table A.
 const A: [u64; 4] = [
@@ -256,6 +257,42 @@ fn sizes(k: u64, shown: u64) {
     say(b"\n");
 }
 
+// Word k, in hexadecimal digits, if there is one.
+fn say_word(bytes: &[u8], k: usize) {
+    if k < bytes.len() / 8 {
+        say(b" ");
+        io::print_hex(STDOUT_FILENO, words::word_at(bytes, k), 16);
+    }
+}
+
+// A row of eight words at most.
+fn say_words(bytes: &[u8]) {
+    for k in 0..8 {
+        say_word(bytes, k);
+    }
+}
+
+// Part j of k of A: written, handed out and shown.
+fn part_of(k: u64, j: u64) {
+    say(b"A, k =");
+    say_number(k);
+    say(b", part");
+    say_number(j);
+    say(b":");
+    let a = bytes_of(&A);
+    let mut sheet = [0u8; 4192];
+    let mut out = [0u8; 64];
+    let written = parts::part_write(&a, k, j, &mut sheet, &mut out);
+    match written {
+        Written::Bytes(m) => {
+            let part = tables::front(&mut out, m);
+            say_words(&part[..]);
+        }
+        Written::Refused(r) => say_refusal(r),
+    }
+    say(b"\n");
+}
+
 fn numbers() {
     rank_of(7);
     rank_of(5);
@@ -268,11 +305,16 @@ fn numbers() {
     setup_of(b"0C00000000000001", &empty[0..8], 0);
 }
 
-fn parts() {
+fn divisions() {
     sizes(4, 4);
     sizes(8, 8);
     sizes(65535, 8);
     sizes(65536, 1);
+    part_of(2, 0);
+    part_of(2, 1);
+    part_of(65535, 5);
+    part_of(65535, 65534);
+    part_of(65536, 0);
 }
 
 fn main() {
@@ -281,5 +323,5 @@ fn main() {
     setup_too_large();
     sheet_too_short();
     numbers();
-    parts();
+    divisions();
 }
