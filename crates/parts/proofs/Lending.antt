@@ -39,22 +39,19 @@ module _ (n : ℕ) (P : ℕ → Bool) (b z : ℕ) where
         let i : b + (z - 1) ≡ b + z - 1 = omega arith in
         writes-same n (between P lo hi) (within P b z) (λ x l. sym (within-bounds P b z (2 ^ n) lo hi (select-some P (2 ^ n) b lo p) (select-some P (2 ^ n) (b + z - 1) hi (rw i at q)) (omega arith) x)) w
 
--- the free places of a sheet, lent as a map
-module _ (table sheet : List ℕ) (n N : ℕ) (room : 8 * needed N ≤ length sheet) where
-  abbrev begin : ℕ
-  begin = 8 * (N + 1)
-
-  abbrev end : ℕ
-  end = 8 * (4 * N + 512)
-
+-- the bytes of a sheet from `begin` to `end`, lent as a map
+module _ (sheet : List ℕ) (begin end : ℕ) (fits : end ≤ length sheet) where
   lent-long : length (take (end - begin) (drop begin sheet)) ≡ end - begin
   lent-long = length-take-le (end - begin) (drop begin sheet) (omega (arith, length-drop begin sheet))
 
-  pub lent-room : 8 * N + 8 ≤ length table → n ≤ 63 → N ≤ 65535 → Room table (take (end - begin) (drop begin sheet)) n N
-  lent-room l few m = record { table-long = l; map-long = omega (arith, lent-long); few-settings = few; few-nodes = m }
+  pub lent-room : (table : List ℕ) (n N : ℕ) → 8 * (N + n + n) + 8 ≤ end - begin → 8 * N + 8 ≤ length table → n ≤ 63 → N ≤ 65535 → Room table (take (end - begin) (drop begin sheet)) n N
+  lent-room table n N room l few m = record { table-long = l; map-long = omega (arith, lent-long); few-settings = few; few-nodes = m }
 
-  -- the other places are as before
-  pub firm-kept : (map : List ℕ) → length map ≡ length (take (end - begin) (drop begin sheet)) → firm true N (putMid begin (end - begin) sheet map) ≡ firm true N sheet
-  unfolding firm
-  firm-kept map l =
-      ap₂ (λ (x y : List ℕ). x ++ y) (take-put begin (end - begin) sheet map (omega arith)) (drop-put begin end sheet map (omega arith) room (l ∙ lent-long))
+-- places N + 1 to 4 × N + 511, lent: all others are as before
+pub firm-kept : (sheet : List ℕ) (N : ℕ) → 8 * needed N ≤ length sheet → (map : List ℕ)
+    → let begin = 8 * (N + 1) in let end = 8 * needed N in length map ≡ length (take (end - begin) (drop begin sheet)) → firm true N (putMid begin (end - begin) sheet map) ≡ firm true N sheet
+unfolding firm
+firm-kept sheet N room map l =
+    let begin = 8 * (N + 1) in
+    let end = 8 * needed N in
+    ap₂ (λ (x y : List ℕ). x ++ y) (take-put begin (end - begin) sheet map (omega arith)) (drop-put begin end sheet map (omega arith) room (l ∙ lent-long sheet begin end room))

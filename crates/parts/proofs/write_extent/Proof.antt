@@ -17,10 +17,13 @@ add-last c =
     let b = c .before .before .before .before .before .before in
     record { fits = omega (arith, extent-fits (b .args .n) (under (wordAt (b .args .table .now)) (b .args .root .value)) (b .args .extent .start .0) (b .args .extent .size) (b .pre .0 .few) (b .pre .6), c .before .if1 .left) }
 
+part-write-between-end : tie.Need-part-write-between-end
+part-write-between-end c = search needs
+
 write-between-requires : tie.Need-write-between-requires
 write-between-requires c κs =
     let p = c .before .before .before .before .before .before .before .before .before .before .before .before .pre in (
-      lent-room _ _ _ _ (p .5) (p .4) (p .0 .few) (p .3),
+      lent-room _ _ _ (p .5) _ _ _ (omega (arith, p .0 .few)) (p .4) (p .0 .few) (p .3),
       p .1,
       p .2,
       select-some _ _ _ _ (c .before .before .before .before .descend .ensures) .below,
@@ -32,7 +35,7 @@ returns-2 c =
     let b = c .before .before .before .before .before .before .before .before .before .before .before .before .before .before .before .before .before in
     let w = c .before .before .before .before .write-between in (
       some-written _ _ _ _ _ _ (c .before .before .before .before .before .before .before .before .before .before .before .before .if1 .left) (c .before .before .before .before .before .before .before .before .before .descend .ensures) (c .before .before .before .before .before .before .before .descend2 .ensures) (w .ensures),
-      firm-kept (b .args .table .now) _ (b .args .n) _ (b .pre .5) (w .last .1 .0) (w .kept .1 .0),
+      firm-kept _ _ (b .pre .5) (w .last .1 .0) (w .kept .1 .0),
     )
 
 pub write-extent-spec : {M : Type 1} → statement M
@@ -40,4 +43,4 @@ write-extent-spec =
     tie.close
     (tie.spec (λ c κs. search needs) (λ c. search needs) returns (λ c. search needs) add-last (λ c κs. search needs) (λ c κs. search needs)
     (λ c. search needs) (λ c. search needs) (λ c. search needs) (λ c. search needs) (λ c. search needs) (λ c. search needs)
-    (λ c. search needs) (λ c. search needs) write-between-requires (λ c. search needs) (λ c. search needs) returns-2)
+    (λ c. search needs) part-write-between-end write-between-requires (λ c. search needs) (λ c. search needs) returns-2)
