@@ -32,7 +32,7 @@ unfolding lengthOf
 answer-value (value b) m e = (b, refl, value-inj e)
 answer-value (refusal r p) m e = absurd (refused-not e)
 
-answer-refusal : (a : Answer (List ℕ)) (number place : ℕ) → lengthOf a ≡ refusal number place → a ≡ refusal number place
+pub answer-refusal : (a : Answer (List ℕ)) (number place : ℕ) → lengthOf a ≡ refusal number place → a ≡ refusal number place
 unfolding lengthOf
 answer-refusal (value b) number place e = absurd (refused-not (sym e))
 answer-refusal (refusal r p) number place e = let i : r ≡ number = cc in let j : p ≡ place = cc in rw (i, j)
