@@ -1,7 +1,6 @@
 -- The answers of part-write fit the packed form: places up to 65,535, and at most 524,288 bytes, so no value can be taken for a refusal. Assumes nothing.
-use Prim.Native.Nat.{ℕ, _+_, _*_, _≤_}
-use mathlib.Core.Path.{_≡_, refl, sym, ap, _∙_}
-use mathlib.Core.Bool.{Bool}
+use Prim.Native.Nat.{ℕ, _≤_}
+use mathlib.Core.Path.{_≡_, refl}
 use mathlib.Core.List.{List}
 use mathlib.Core.Option.{Option, none, some}
 use native.Mathlib.Omega.{arith}
@@ -11,8 +10,8 @@ use Rattle.words.specs.Words.{wordAt}
 use Rattle.words.proofs.Cases.{passed}
 use Rattle.diagram.specs.Format.{settings}
 use Rattle.diagram.specs.Meaning.{permitted}
-use Rattle.diagram.specs.Answer.{Answer, value, refusal, andThen}
-use Rattle.diagram.proofs.AnswerLaws.{refused-not, value-inj, then-some}
+use Rattle.diagram.specs.Answer.{Answer, value, refusal}
+use Rattle.diagram.proofs.AnswerLaws.{refused-not, then-some}
 use Rattle.diagram.proofs.Refusals.{Refuses, refuses, passes, unless, then-refuses}
 use Rattle.diagram.proofs.Accept.{accepts-accepted}
 use Rattle.checking.specs.Operations.{checkingFor}

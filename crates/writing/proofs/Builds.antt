@@ -1,11 +1,10 @@
 -- Cutting, marking and numbering, put together. Assumes nothing.
-use Prim.Native.Nat.{ℕ, suc, _+_, _/_, _%_, _^_, _≤_, _<_}
+use Prim.Native.Nat.{ℕ, suc, _+_, _/_, _^_, _≤_, _<_}
 use mathlib.Core.Path.{_≡_, refl, sym, ap, _∙_, subst}
-use mathlib.Core.Bool.{Bool, true, false, _&&_}
+use mathlib.Core.Bool.{true, false}
 use mathlib.Core.List.{List}
 use native.Mathlib.Omega.{arith}
 use native.Mathlib.Nat.{add-zero, le-refl, mod-eq-of-lt}
-use lib.Dec.{leb}
 use Rattle.diagram.specs.Format.{Words}
 use Rattle.diagram.specs.Meaning.{under}
 use Rattle.diagram.specs.Ordered.{Ordered, Reduced}

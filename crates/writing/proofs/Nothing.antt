@@ -1,16 +1,15 @@
 -- The table of no setups is the header alone. Assumes nothing.
 use Prim.Native.Nat.{ℕ, _+_, _*_, _^_, _≤_, _<_}
-use mathlib.Core.Path.{_≡_, refl, sym, ap, _∙_}
+use mathlib.Core.Path.{_≡_, refl, ap, _∙_}
 use mathlib.Core.Bool.{Bool, false}
 use mathlib.Core.List.{List, _++_}
 use native.Mathlib.Omega.{arith}
-use lib.ListN.{length, take, drop}
+use lib.ListN.{length, drop}
 use borrow.Author.Tests.{lt-ltb, le-ltb}
 use Rattle.words.specs.Words.{bytesOf, putWord}
 use Rattle.words.proofs.Laws.{length-bytesOf}
 use Rattle.diagram.specs.Answer.{value, refusal}
 use Rattle.diagram.specs.Reading.{recordOf}
-use Rattle.tables.specs.Table.{tableOf}
 use Rattle.tables.specs.Writing.{fitted}
 use Rattle.tables.proofs.WritingLaws.{empty-table}
 use Rattle.writing.specs.Inner.{Writes}

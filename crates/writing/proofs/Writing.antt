@@ -1,14 +1,13 @@
 -- The three outcomes of writing a table, by its records. Assumes nothing.
-use Prim.Native.Nat.{ℕ, suc, _+_, _*_, _/_, _^_, _≤_, _<_}
-use mathlib.Core.Path.{_≡_, refl, sym, ap, _∙_}
-use mathlib.Core.Bool.{Bool, false}
+use Prim.Native.Nat.{ℕ, _^_, _<_}
+use mathlib.Core.Path.{_≡_, refl, sym, _∙_}
+use mathlib.Core.Bool.{Bool}
 use mathlib.Core.List.{List, _++_}
 use mathlib.Core.Option.{Option, none, some}
 use lib.ListN.{length, drop}
 use Rattle.diagram.specs.Answer.{Answer, value, refusal}
 use Rattle.tables.specs.Table.{tableOf}
 use Rattle.tables.specs.Writing.{fitted, lengthOf, outAfter}
-use Rattle.tables.proofs.TableFor.{TableFor}
 use Rattle.tables.proofs.TableLaws.{tableOf-is, tableOf-some}
 use Rattle.writing.specs.Inner.{Writes}
 

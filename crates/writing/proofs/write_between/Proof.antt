@@ -1,9 +1,9 @@
 -- `writing::write_between` meets its contract. Assumes nothing.
 use Prim.Native.Nat.{_+_, _*_}
-use mathlib.Core.Path.{_≡_, refl, sym, _∙_}
+use mathlib.Core.Path.{refl, sym, _∙_}
 use native.Mathlib.Omega.{arith}
 use borrow.Author.Needs.{needs}
-use lib.ListN.{length, take, drop}
+use lib.ListN.{drop}
 use lib.Seq.{length-take-le}
 use Rattle.words.proofs.Bytes.{bytes-front}
 use Rattle.marking.proofs.Marking.{room-same}
