@@ -14,12 +14,7 @@ use Rattle.diagram.specs.Ordered.{Ordered}
 use Rattle.diagram.specs.Reading.{HasFields}
 use Rattle.diagram.proofs.Paths.{side-lower}
 use Rattle.numbering.specs.Numbered.{Wanted, Marked}
-use Rattle.cutting.specs.Cut.{Room}
 use Rattle.marking.specs.Marks.{Spread, Passed, left-out, passed-on}
-
--- as much room in a map of the same length
-pub room-same : (t s s′ : List ℕ) (n N : ℕ) → length s′ ≡ length s → Room t s n N → Room t s′ n N
-room-same t s s′ n N e r = record { table-long = r .table-long; map-long = rw e (r .map-long); few-settings = r .few-settings; few-nodes = r .few-nodes }
 
 -- the nodes a and b that the record z of node v names, of fields h, t and e
 module _ (R : Words) (n M v z h t e a b : ℕ) (z-is : z ≡ R v) (F : HasFields z h t e) (a-is : a ≡ t / 2) (b-is : b ≡ e / 2) where

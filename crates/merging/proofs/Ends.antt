@@ -12,15 +12,11 @@ use Rattle.diagram.specs.Format.{Words, highField}
 use Rattle.diagram.proofs.Paths.{height-le-settings}
 use Rattle.numbering.specs.Numbered.{Marked, Alike, Finished}
 use Rattle.numbering.proofs.Finish.{start, finish, alike-same, alike-trans}
-use Rattle.cutting.specs.Cut.{TwiceCut, Room}
+use Rattle.cutting.specs.Cut.{TwiceCut}
 use Rattle.merging.specs.Inner.{front, Done, in-table, in-cut, Merging, Limits, Reached, Passed}
 use Rattle.merging.proofs.Lists.{Left, left-table, left-cut, place}
 use Rattle.merging.proofs.Merge.{few-records, high}
 use Rattle.merging.proofs.Levels.{same-front}
-
--- a map of the same length has the same room
-pub room-same : {t s s′ : List ℕ} {n N : ℕ} → Room t s n N → length s′ ≡ length s → Room t s′ n N
-room-same r e = record { table-long = r .table-long; map-long = omega (arith, r .map-long); few-settings = r .few-settings; few-nodes = r .few-nodes }
 
 -- the same with the fronts under other names
 pub passed-as : {R : Words} {map map′ : List ℕ} {n N limit p q r c′ last′ p′ q′ r′ : ℕ} → q′ ≡ q → r′ ≡ r → Passed R map map′ n N limit p q r c′ last′ p′ → Passed R map map′ n N limit p q′ r′ c′ last′ p′

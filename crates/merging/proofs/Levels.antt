@@ -27,7 +27,7 @@ same-front q r e true = e
 same-front q r e false = refl
 
 -- either way round, the smaller of two comes first
-pub smaller-first : (a b : ℕ) (swap d : Bool) → swap ≡ ltb b a → cond swap b a ≤ cond d b a
+smaller-first : (a b : ℕ) (swap d : Bool) → swap ≡ ltb b a → cond swap b a ≤ cond d b a
 smaller-first a b true true e = le-refl b
 smaller-first a b true false e = omega (arith, ltb-true b a (sym e))
 smaller-first a b false true e = ltb-false b a (sym e)

@@ -35,6 +35,13 @@ module _ (R W L : Words) (n M c : ℕ) (Done : ℕ → Type 0) (D : Ordered R n 
   pub renew-high : (k : ℕ) → k < M → highField (renew W (R (suc k))) ≡ height R (suc k)
   renew-high k l = ap highField (renew-node R W k) ∙ normal-high (height R (suc k)) (new true k) (new false k) (side-lt true k l) (side-lt false k l)
 
+  -- so it is not 0
+  pub renew-positive : (k : ℕ) → k < M → 0 < renew W (R (suc k))
+  renew-positive k l =
+      let h = renew-high k l in
+      let t = D .tall k l in
+      elim (tri 0 (renew W (R (suc k)))) [ less q ↦ q | same q ↦ absurd (unfold highField in omega arith) | more q ↦ absurd (omega arith) ]
+
   -- a record of the list that node v + 1 makes
   module _ (i v : ℕ) (l : v < M) (e : L (suc i) ≡ normal (height R (suc v)) (new true v) (new false v)) where
     pub made-height : height L (suc i) ≡ height R (suc v)

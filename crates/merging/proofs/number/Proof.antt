@@ -4,8 +4,9 @@ use mathlib.Core.Path.{_≡_, refl, _∙_}
 use native.Mathlib.Omega.{arith}
 use Rattle.words.specs.Words.{wordAt}
 use Rattle.cutting.specs.Cut.{extended}
+use Rattle.cutting.proofs.Extended.{room-same}
 use Rattle.merging.specs.Inner.{Reached}
-use Rattle.merging.proofs.Ends.{room-same, reached-trans, reached-first, end-limits, finished}
+use Rattle.merging.proofs.Ends.{reached-trans, reached-first, end-limits, finished}
 use Rattle.merging.proofs.number.Statement.{statement}
 use Rattle.merging.proofs.number.Tie as tie
 

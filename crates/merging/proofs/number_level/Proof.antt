@@ -3,11 +3,12 @@ use mathlib.Core.Path.{refl, sym, ap, _∙_}
 use mathlib.Core.Bool.{true, false}
 use native.Mathlib.Omega.{arith}
 use borrow.Author.Needs.{needs}
+use Rattle.cutting.proofs.Extended.{room-same}
 use Rattle.merging.specs.Inner.{cutNode}
 use Rattle.merging.proofs.Lists.{cut-inside}
 use Rattle.merging.proofs.Merge.{merging-keyed}
 use Rattle.merging.proofs.Levels.{level-limits, comes-first, comes-next, moved-both}
-use Rattle.merging.proofs.Ends.{room-same, passed-as, reached-trans}
+use Rattle.merging.proofs.Ends.{passed-as, reached-trans}
 use Rattle.merging.proofs.number_level.Statement.{statement}
 use Rattle.merging.proofs.number_level.Tie as tie
 

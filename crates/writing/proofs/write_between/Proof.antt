@@ -6,7 +6,7 @@ use borrow.Author.Needs.{needs}
 use lib.ListN.{drop}
 use lib.Seq.{length-take-le}
 use Rattle.words.proofs.Bytes.{bytes-front}
-use Rattle.marking.proofs.Marking.{room-same}
+use Rattle.cutting.proofs.Extended.{room-same}
 use Rattle.writing.proofs.Outcomes.{too-many, no-room, wrote}
 use Rattle.writing.proofs.write_between.Statement.{statement}
 use Rattle.writing.proofs.write_between.Tie as tie
@@ -25,7 +25,7 @@ write-table-requires c κs =
     let p = c .before .before .before .before .before .before .before .before .before .before .before .before .before .before .pre in
     let e = c .before .before .before .before .before .before .before .before .build .ensures in
     let l = length-take-le (8 * (c .before .before .before .before .before .before .before .before .build .result .records + 1)) (c .before .before .before .before .before .before .before .before .before .before .before .before .before .before .args .out .now) (c .before .before .before .if2 .left) in
-    (room-same _ _ _ _ _ (e .1) (p .0), e .0 .keyed, e .0 .finished, omega (arith, l), omega (arith, c .before .before .before .before .if1 .left), e .0 .inside, e .0 .top)
+    (room-same (p .0) (e .1), e .0 .keyed, e .0 .finished, omega (arith, l), omega (arith, c .before .before .before .before .if1 .left), e .0 .inside, e .0 .top)
 
 returns-3 : tie.Need-returns-3
 returns-3 c =
