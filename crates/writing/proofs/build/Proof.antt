@@ -49,8 +49,7 @@ number-requires c κs =
     let q = c .before .before .before .before .mark .ensures in (
       room-same r (q .1),
       twice-cut _ _ _ (p .1) (r .few-settings) (r .few-nodes) _ (p .2) _ _ _ _ _ _ _ (k .0) (k .1) (m .0) (m .1),
-      q .0,
-      second-inside _ _ _ (p .1) (r .few-settings) (r .few-nodes) _ (p .2) _ _ _ _ _ _ _ (k .0) (k .1) (m .0) (m .1),
+      q .0 .marks,
     )
 
 returns : tie.Need-returns
