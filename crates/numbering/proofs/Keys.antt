@@ -19,14 +19,13 @@ unfolding image
 image-is W e k m r k-is m-is q = q ∙ rw (m-is, k-is)
 
 -- the new record of a diagram's node can be read off
-pub keyed-renewable : (R : Words) (map : List ℕ) (n M : ℕ) → Keyed R (wordAt map) n M → 8 * M + 8 ≤ length map → (v z : ℕ) → 0 < v → v ≤ M → z ≡ R v → z < 18446744073709551616 → Renewable map v z
+pub keyed-renewable : (R : Words) (map : List ℕ) (n M : ℕ) → Keyed R (wordAt map) n M → 8 * M + 8 ≤ length map → (v z : ℕ) → 0 < v → v ≤ M → z ≡ R v → Renewable map v z
 unfolding thenEdge elseEdge
-keyed-renewable R map n M K long zero z p l e f = absurd (omega arith)
-keyed-renewable R map n M K long (suc v) z p l e f =
+keyed-renewable R map n M K long zero z p l e = absurd (omega arith)
+keyed-renewable R map n M K long (suc v) z p l e =
     let a = side-node R n M (K .ordered) true v l in
     let b = side-node R n M (K .ordered) false v l in
     rw e (record {
-      fits = rw (← e) f;
       room = omega arith;
       then-room = omega arith;
       else-room = omega arith;

@@ -75,7 +75,6 @@ module _ (w : Words) (n N : ℕ) (D : Reduced w n N) (few-settings : n ≤ 63) (
         means = means p q;
         finished = finish w₂ W₀ W n (N + n + n) c b (twice-cut .ordered) K A G (omega arith) second-inside;
         keyed = record { ordered = twice-cut .ordered; closed = G .closed; small = λ v i. omega (arith, G .numbered .small v i) };
-        few = m;
         inside = second-inside;
         top = A .up (b / 2) (K .top);
       }

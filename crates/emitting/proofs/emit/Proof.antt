@@ -3,7 +3,6 @@ use Prim.Native.Nat.{_+_, _-_, _≤_}
 use mathlib.Core.Path.{_≡_, refl}
 use native.Mathlib.Omega.{arith}
 use lib.ListN.{length}
-use borrow.Author.Needs.{needs}
 use Rattle.words.specs.Words.{wordAt}
 use Rattle.numbering.proofs.Keys.{keyed-renewable}
 use Rattle.cutting.specs.Cut.{extended}
@@ -40,7 +39,7 @@ emit-one-requires c κs =
     let l = w .before .before in
     let p = l .before .before .before .before .pre in
     let i = l .loop .inv in (
-      keyed-renewable _ _ _ _ (p .1) (p .0 .map-long) _ _ (omega arith) (omega arith) (w .word-in .ensures) (search needs),
+      keyed-renewable _ _ _ _ (p .1) (p .0 .map-long) _ _ (omega arith) (omega arith) (w .word-in .ensures),
       next-room _ _ _ _ _ _ (p .2) (w .before .loop-test .taken) (w .word-in .ensures) (l .loop .out) (i .1),
     )
 

@@ -3,7 +3,6 @@ use Prim.Native.Nat.{_+_, _-_, _≤_}
 use mathlib.Core.Path.{_≡_, refl, ap, _∙_}
 use native.Mathlib.Omega.{arith}
 use Rattle.words.specs.Words.{wordAt}
-use Rattle.words.proofs.Laws.{word-fits}
 use Rattle.numbering.proofs.Keys.{keyed-renewable}
 use Rattle.cutting.specs.Cut.{extended}
 use Rattle.cutting.proofs.Extended.{extended-low}
@@ -42,10 +41,8 @@ key-of-requires c κs =
     let i = c .before .before .before .loop in
     let l = c .before .before .loop-test .taken in
     let G = i .inv .0 .reached .merging in
-    let g = c .before .before .before .before .before .before .before .shared-slice-known .given in
     keyed-renewable _ _ _ _ (merging-keyed _ _ _ _ _ _ _ _ _ (a .pre .1) G (a .pre .0 .few-settings) (a .pre .0 .few-nodes))
     (omega (arith, a .pre .0 .map-long, i .inv .0 .reached .same-length)) _ _ (G .fronts .p-low) (omega arith) (extended-low _ _ _ _ _ l (i .inv .1 l))
-    (rw (i .inv .1 l) (word-fits _ _ (λ j. omega (arith, g j))))
 
 returns : tie.Need-returns Inv-loop μ-loop
 returns c =
