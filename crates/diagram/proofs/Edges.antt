@@ -1,5 +1,5 @@
 -- Edges by their flags: what code does at a set flag and at a clear one, and complements. Assumes nothing.
-use Prim.Native.Nat.{ℕ, zero, suc, _+_, _-_, _*_, _/_, _%_}
+use Prim.Native.Nat.{ℕ, zero, suc, _+_, _-_, _*_, _/_, _%_, _<_}
 use mathlib.Core.Path.{_≡_, refl, sym, _∙_}
 use mathlib.Core.Bool.{Bool, true, false, not, Bool·not-not}
 use native.Mathlib.Omega.{arith}
@@ -49,6 +49,12 @@ pub turn-node : (f e : ℕ) → turn f e / 2 ≡ e / 2
 unfolding turn
 turn-node zero e = refl
 turn-node (suc f) e = omega arith
+
+-- ... stays below a limit of edges
+pub turn-lt : (f e m : ℕ) → e < 2 * m → turn f e < 2 * m
+unfolding turn
+turn-lt zero e m l = l
+turn-lt (suc f) e m l = omega arith
 
 -- ... and permits the opposite
 pub turn-under : (w : Words) (f e x : ℕ) → under w (turn f e) x ≡ flip f (under w e x)

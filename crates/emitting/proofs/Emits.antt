@@ -51,15 +51,18 @@ module _ (map : List ℕ) (v z word flag h t e : ℕ) (N : Renewable map v z) (K
   unfolding middleField lowField
   none q = F .middle-is ∙ rw q refl ∙ sym (F .low-is)
 
+  -- where the fields differ, the node has a record
   pub has-record : (t ≡ e → ⊥) → HasRecord W v z
   has-record n = record { live = live; apart = λ q. n (high-is live ∙ ap (turn (a % 2)) q ∙ sym (low-is live)) }
     where
       live : 0 < W v
       live = elim (tri 0 (W v)) [ less l ↦ l | same q ↦ absurd (n (none (K .dead (sym q)))) | more l ↦ absurd (omega arith) ]
 
+  -- nothing is written
   pub emit-quiet : (out : List ℕ) → t ≡ e → Emitted W out out v z
   emit-quiet out q = quiet (has-none q) refl
 
+  -- the record is written at its number
   pub emit-wrote : (n : t ≡ e → ⊥) (out out′ : List ℕ) (m i : ℕ) → m ≡ W v → i ≡ (m - 1) / 2 → word < 18446744073709551616 → out′ ≡ putWord out i word → Emitted W out out′ v z
   emit-wrote n out out′ m i m-is i-is s q =
       let O = has-record n in

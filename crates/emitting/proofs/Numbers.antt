@@ -27,6 +27,7 @@ module _ (R W : Words) (n M c root : ℕ) (F : Finished R W n M c root) where
       go (dropped e x) = absurd (O .apart e)
       go (made j i e x f) = (j, i, omega arith, f ∙ sym (renew-node R W v))
 
+  -- so the numbers fit
   pub numbers-fit : (size : ℕ) → 8 * c + 8 ≤ size → NumbersFit R W M size
   numbers-fit size long = record {
     some = λ v l O. let a = numbered v l O in omega (arith, a .2);
@@ -43,6 +44,7 @@ module _ (R W : Words) (n M c root : ℕ) (F : Finished R W n M c root) where
       ap (wordAt out) (sym e) ∙ G .records (s .node) (s .inside) (record { live = s .live; apart = s .apart }) ∙ renew-node R W (s .node) ∙ sym (s .makes)
 
 module _ (R W : Words) (header : ℕ) (out : List ℕ) where
+  -- before the first node
   pub records-none : wordAt out 0 ≡ header → HoldsRecords R W 0 header out
   records-none e = record { first = e; records = λ v l. absurd (omega arith) }
 
@@ -69,9 +71,11 @@ module _ (R W : Words) (header : ℕ) (out : List ℕ) where
 
 -- the turn of the loop after node v, where z is the next node's record
 module _ (R W : Words) (M size v z : ℕ) (P : NumbersFit R W M size) (inside : v < M) (z-is : z ≡ R (v + 1)) where
+  -- there is room for the next node's record
   pub next-room : (out : List ℕ) → length out ≡ size → HasRecord W (v + 1) z → 8 * recordNumber W (v + 1) + 8 ≤ length out
   next-room out long O = rw (long, add-one v) (P .room v inside (rw (z-is, add-one v) at O))
 
+  -- ... and its record is written
   pub next-records : (header : ℕ) (out out′ : List ℕ) → length out ≡ size → HoldsRecords R W v header out → Emitted W out out′ (v + 1) z → HoldsRecords R W (v + 1) header out′
   next-records header out out′ long G E = rw (add-one v) (records-next R W header out M v inside (rw (← long) at P) G out′ (rw (z-is, add-one v) at E))
 

@@ -30,6 +30,7 @@ module _ (R : Words) (n M v z h t e a b : ℕ) (z-is : z ≡ R v) (F : HasFields
   pub names-inside : Ordered R n M → 0 < v → v ≤ M → (a ≤ M) × (b ≤ M)
   names-inside D some inside = (omega (arith, side-lower R n M D true v some inside .node, then-names), omega (arith, side-lower R n M D false v some inside .node, else-names))
 
+  -- they are marked
   pub marked-below : (s s′ : List ℕ) (m : ℕ) → m ≡ wordAt s v → (m ≡ 0 → ⊥) → Spread (wordAt s) (wordAt s′) a b → MarkedBelow R s s′ v
   marked-below s s′ m m-is live S = passed-on (omega (arith, live)) (rw (then-names, else-names) S)
 
@@ -97,6 +98,7 @@ marking-next R s s′ n M top v D l G (passed-on live S) = record {
         let b = D .else-node v l in
         elim (S .only (suc k) i) [ inl q ↦ q | inr q ↦ elim q [ inl e ↦ absurd (omega arith) | inr e ↦ absurd (omega arith) ] ]
 
+-- the same of a node by its own number
 pub marking-down : (R : Words) (s s′ : List ℕ) (n M top v : ℕ) → Ordered R n M → 0 < v → v ≤ M → Marking R (wordAt s) M top v → MarkedBelow R s s′ v → Marking R (wordAt s′) M top (v - 1)
 marking-down R s s′ n M top zero D l m G P = absurd (omega arith)
 marking-down R s s′ n M top (suc v) D l m G P = let e : suc v - 1 ≡ v = omega arith in rw e (marking-next R s s′ n M top v D m G P)

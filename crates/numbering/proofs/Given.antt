@@ -41,6 +41,7 @@ pub placed-other : {R W W′ : Words} {v c last c′ last′ : ℕ} → Placed R
 placed-other (left-out z e a b) u n = ap (λ (w : Words). w u) e
 placed-other (placed x l U A) u n = U .other u n
 
+-- at most one record is new
 pub placed-count : {R W W′ : Words} {v c last c′ last′ : ℕ} → Placed R W W′ v c last c′ last′ → c′ ≤ c + 1
 placed-count (left-out z e a b) = omega arith
 placed-count (placed x l U A) = assigned-count A .0

@@ -9,9 +9,10 @@ use Rattle.words.specs.Words.{wordAt, putWord}
 use Rattle.diagram.specs.Format.{Words, middleField, lowField, thenEdge, elseEdge}
 use Rattle.diagram.specs.Reading.{HasFields, turn, recordOf}
 use Rattle.diagram.proofs.Paths.{side-node}
+use Rattle.diagram.proofs.Edges.{turn-lt}
 use Rattle.numbering.specs.Renewal.{image, normal, renew, Renewable, IsKey, given-edge, given-last, given-new, Gave, stored}
 use Rattle.numbering.specs.Numbered.{Keyed}
-use Rattle.numbering.proofs.Images.{turn-lt, image-small}
+use Rattle.numbering.proofs.Images.{image-small}
 
 -- the image of edge e, whose node's place holds m
 pub image-is : (W : Words) (e k m r : ℕ) → k ≡ e / 2 → m ≡ W k → r ≡ turn (e % 2) (m - 1) → r ≡ image W e

@@ -28,6 +28,7 @@ module _ (R W L : Words) (n M c : ℕ) (Done : ℕ → Type 0) (D : Ordered R n 
   pub image-lt : (e : ℕ) → e / 2 ≤ M → image W e < 2 * (c + 1)
   image-lt e l = image-small W e (c + 1) (omega (arith, S .small (e / 2) l))
 
+  -- ... and fit a field
   pub side-lt : (b : Bool) (k : ℕ) → k < M → new b k < 536870912
   side-lt b k l = omega (arith, side-node R n M D b k l, image-lt (side R b (suc k)) (omega (arith, side-node R n M D b k l)))
 
@@ -69,6 +70,7 @@ module _ (R W L : Words) (n M c : ℕ) (Done : ℕ → Type 0) (D : Ordered R n 
   lower zero (suc j) l m q = omega arith
   lower (suc i) (suc j) l m q = elim (tri i j) [ less r ↦ omega arith | same r ↦ absurd (omega (arith, ap (λ (k : ℕ). L (suc k) / 2 ^ 58) r)) | more r ↦ absurd (omega (arith, ascending (suc j) (suc i) (omega arith) l)) ]
 
+  -- an image leads to a record or to the sink
   pub image-inside : (e : ℕ) → e / 2 ≤ M → image W e / 2 ≤ c
   image-inside e l = omega (arith, image-lt e l)
 

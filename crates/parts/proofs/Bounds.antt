@@ -24,11 +24,13 @@ use Rattle.tables.proofs.TableLaws.{tableOf-some}
 use Rattle.parts.specs.Operations.{needed, partOf, partWriting, Promise}
 use Rattle.parts.proofs.Promised.{answer-value, fitted-some}
 
+-- the refusals stay
 length-refuses : (Q : ℕ → ℕ → Type 0) (a : Answer (List ℕ)) → Refuses Q a → Refuses Q (lengthOf a)
 unfolding lengthOf
 length-refuses Q (value bytes) h = passes Q (length bytes)
 length-refuses Q (refusal number place) h = refuses Q number place (h number place refl)
 
+-- the place of every refusal is at most 65,535
 pub part-place : (t : List ℕ) (k j : ℕ) (s : List ℕ) (room : ℕ) → Refuses Low (lengthOf (partWriting t k j s room))
 unfolding partWriting partOf
 part-place t k j s room =
@@ -40,6 +42,7 @@ part-place t k j s room =
     fits none = unfold fitted in refuses Low 16 0 (omega arith)
     fits (some bytes) = unfold fitted in unless Low (ltb room (length bytes)) 11 0 (omega arith) (passes Low bytes)
 
+-- a written part has at most 524,288 bytes
 pub bytes-fit : (t : List ℕ) (k j : ℕ) (s : List ℕ) (room m : ℕ) → lengthOf (partWriting t k j s room) ≡ value m → m ≤ 524288
 unfolding partWriting partOf
 bytes-fit t k j s room m e =

@@ -50,6 +50,7 @@ module _ (table sheet : List ℕ) (n N : ℕ) (room : 8 * needed N ≤ length sh
   lent-long : length (take (end - begin) (drop begin sheet)) ≡ end - begin
   lent-long = length-take-le (end - begin) (drop begin sheet) (omega (arith, length-drop begin sheet))
 
+  -- they are room enough
   pub lent-room : 8 * N + 8 ≤ length table → n ≤ 63 → N ≤ 65535 → Room table (take (end - begin) (drop begin sheet)) n N
   lent-room l few m = record { table-long = l; map-long = omega (arith, lent-long); few-settings = few; few-nodes = m }
 

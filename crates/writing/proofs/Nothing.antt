@@ -19,10 +19,12 @@ module _ (n : ℕ) (few : n ≤ 63) (out : List ℕ) where
   abbrev none : ℕ → Bool
   none x = false
 
+  -- no room for a header
   pub nothing-short : length out < 8 → Writes n none out (refusal 11 0) out
   unfolding fitted
   nothing-short l = writes-refused n none out 11 0 (rw (empty-table n none few (λ x l. refl), length-bytesOf 8 (n * 2 ^ 58 + 1), lt-ltb (length out) 8 l))
 
+  -- the header is written
   pub nothing-written : 8 ≤ length out → (word : ℕ) → word ≡ recordOf n 0 1 → (out′ : List ℕ) → out′ ≡ putWord out 0 word → Writes n none out (value 8) out′
   unfolding fitted recordOf putWord
   nothing-written l word word-is out′ out-is =
