@@ -82,7 +82,8 @@ module _ (R : Words) (map map₁ : List ℕ) (n N p q r limit c last p₁ : ℕ)
       (λ d m. omega (arith, same-front q r e d)) (cutNode N n b q) (omega arith) (i .1) (omega (arith, cut-level R n N X b q some l)) s
 
   -- the node of the smaller key comes first
-  module _ (swap : Bool) (va wa fa vb wb fb : ℕ) (va-is : va ≡ cutNode N n false q) (A : IsKey W₁ va (R va) wa fa) (vb-is : vb ≡ cutNode N n true q) (B : IsKey W₁ vb (R vb) wb fb) (swap-is : swap ≡ ltb wb wa) where
+  module _ (swap : Bool) (va wa fa vb wb fb : ℕ) (va-is : va ≡ cutNode N n false q) (A : IsKey W₁ va (R va) wa fa)
+      (vb-is : vb ≡ cutNode N n true q) (B : IsKey W₁ vb (R vb) wb fb) (swap-is : swap ≡ ltb wb wa) where
     key : (d : Bool) → IsKey W₁ (cutNode N n d q) (R (cutNode N n d q)) (cond d wb wa) (cond d fb fa)
     key true = subst (λ (v : ℕ). IsKey W₁ v (R v) wb fb) vb-is B
     key false = subst (λ (v : ℕ). IsKey W₁ v (R v) wa fa) va-is A

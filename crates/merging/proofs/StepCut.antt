@@ -44,7 +44,10 @@ module _ (R W W′ : Words) (n N c last p q r c′ last′ q′ r′ : ℕ) (b :
     new = in-cut b (omega (arith, F .low b)) (omega (arith, T .here));
     only = λ u. elim [
       | in-table a ↦ inr (in-table a)
-      | in-cut d i j ↦ elim (sides d b) [ inl e ↦ own u (subst (λ (s : Bool). cutNode N n s 0 < u) e i) (subst (λ (s : Bool). u < cutNode N n s (front q′ r′ s)) e j) | inr e ↦ inr (in-cut d i (omega (arith, T .there d e))) ]
+      | in-cut d i j ↦ elim (sides d b) [
+        | inl e ↦ own u (subst (λ (s : Bool). cutNode N n s 0 < u) e i) (subst (λ (s : Bool). u < cutNode N n s (front q′ r′ s)) e j)
+        | inr e ↦ inr (in-cut d i (omega (arith, T .there d e)))
+      ]
     ];
   }
     where

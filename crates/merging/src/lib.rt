@@ -1,6 +1,6 @@
 // A table with the nodes of two cuts behind it is numbered anew in the order of the new records: level by level, the table's nodes in between the two of the cuts.
 ghost use mathlib.Core.Path.{_≡_};
-ghost use Prim.Native.Nat.{_+_, _*_, _/_, _≤_, _<_};
+ghost use Prim.Native.Nat.{_+_, _*_, _≤_, _<_};
 ghost use lib.ListN.{length};
 ghost use Rattle.words.specs.Words.{wordAt};
 ghost use Rattle.numbering.specs.Renewal.{IsKey};

@@ -68,7 +68,11 @@ module _ (R W L : Words) (n M c : ℕ) (Done : ℕ → Type 0) (D : Ordered R n 
   unfolding height highField
   lower i zero l m q = absurd (omega arith)
   lower zero (suc j) l m q = omega arith
-  lower (suc i) (suc j) l m q = elim (tri i j) [ less r ↦ omega arith | same r ↦ absurd (omega (arith, ap (λ (k : ℕ). L (suc k) / 2 ^ 58) r)) | more r ↦ absurd (omega (arith, ascending (suc j) (suc i) (omega arith) l)) ]
+  lower (suc i) (suc j) l m q = elim (tri i j) [
+    | less r ↦ omega arith
+    | same r ↦ absurd (omega (arith, ap (λ (k : ℕ). L (suc k) / 2 ^ 58) r))
+    | more r ↦ absurd (omega (arith, ascending (suc j) (suc i) (omega arith) l))
+  ]
 
   -- an image leads to a record or to the sink
   pub image-inside : (e : ℕ) → e / 2 ≤ M → image W e / 2 ≤ c

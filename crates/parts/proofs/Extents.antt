@@ -79,7 +79,8 @@ fitted-loosens room (some bytes) = go (ltb room (length bytes))
 
 module _ (table : List ℕ) (k j : ℕ) (sheet out : List ℕ) where
   -- refused, with the sheet as the check leaves it
-  promise-refused : (sheet′ : List ℕ) → sheet′ ≡ sheetAfterFor needed table sheet → (number place : ℕ) → refusal number place ≡ partWriting table k j sheet (length out) → Promise table k j sheet out (refusal number place) sheet′ out
+  promise-refused : (sheet′ : List ℕ) → sheet′ ≡ sheetAfterFor needed table sheet → (number place : ℕ) → refusal number place ≡ partWriting table k j sheet (length out)
+      → Promise table k j sheet out (refusal number place) sheet′ out
   unfolding lengthOf outAfter
   promise-refused sheet′ is number place e = record {
     answers = ap lengthOf e;

@@ -33,7 +33,8 @@ module _ (n : ℕ) (P : ℕ → Bool) (b z : ℕ) where
     none-written e w = writes-same n (λ _. false) (within P b z) (λ x l. sym (within-none P b z e x)) w
 
     -- or those from the first to the last
-    pub some-written : (lo hi : ℕ) → (z ≡ 0 → ⊥) → select P (2 ^ n) b ≡ some lo → select P (2 ^ n) (b + (z - 1)) ≡ some hi → Writes n (between P lo hi) out answer out′ → Writes n (within P b z) out answer out′
+    pub some-written : (lo hi : ℕ) → (z ≡ 0 → ⊥) → select P (2 ^ n) b ≡ some lo → select P (2 ^ n) (b + (z - 1)) ≡ some hi
+        → Writes n (between P lo hi) out answer out′ → Writes n (within P b z) out answer out′
     unfolding between
     some-written lo hi e p q w =
         let i : b + (z - 1) ≡ b + z - 1 = omega arith in
