@@ -23,7 +23,10 @@ pub struct Comparison {
 }
 
 impl Comparison {
-    pub fn new(seed: u64) -> Comparison {
+    /// By the seed of the test run, which is printed.
+    pub fn of_run() -> Comparison {
+        let seed = Rng::seed_of_run();
+        println!("seed {seed}");
         Comparison {
             seed,
             rng: Rng::new(seed),

@@ -6,15 +6,12 @@ use setupbook_tests::comparison::{random_part, Comparison};
 use setupbook_tests::damage;
 use setupbook_tests::layout::{bytes_of, fields, word};
 use setupbook_tests::paper;
-use setupbook_tests::rng::Rng;
 use setupbook_tests::sheets;
 use setupbook_tests::tables::{self, TruthTable};
 
 #[test]
 fn library_agrees_with_the_paper() {
-    let seed = Rng::seed_of_run();
-    println!("seed {seed}");
-    let mut comparison = Comparison::new(seed);
+    let mut comparison = Comparison::of_run();
     comparison.run(&[
         ("all functions of up to 3 settings", all_small_functions),
         ("random functions of 4 to 8 settings", random_functions),

@@ -11,9 +11,7 @@ use setupbook_tests::tables;
 
 #[test]
 fn parts_are_the_whole() {
-    let seed = Rng::seed_of_run();
-    println!("seed {seed}");
-    let mut comparison = Comparison::new(seed);
+    let mut comparison = Comparison::of_run();
     comparison.run(&[
         ("all functions of up to 3 settings", all_small_functions),
         ("random functions of 4 to 8 settings", random_functions),

@@ -4,15 +4,12 @@ use setupbook_tests::call::{Answer, Call, Refusal};
 use setupbook_tests::comparison::{border_parts, random_part, Comparison};
 use setupbook_tests::layout::{bytes_of, fields};
 use setupbook_tests::paper;
-use setupbook_tests::rng::Rng;
 use setupbook_tests::sheets;
 use setupbook_tests::tables::{self, TruthTable};
 
 #[test]
 fn parts_agree_with_the_paper() {
-    let seed = Rng::seed_of_run();
-    println!("seed {seed}");
-    let mut comparison = Comparison::new(seed);
+    let mut comparison = Comparison::of_run();
     comparison.run(&[
         ("all functions of up to 3 settings", all_small_functions),
         ("random functions of 4 to 8 settings", random_functions),

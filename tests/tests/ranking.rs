@@ -4,14 +4,11 @@
 use setupbook_tests::call::{Answer, Call};
 use setupbook_tests::comparison::{border_parts, random_part, Comparison};
 use setupbook_tests::layout::bytes_of;
-use setupbook_tests::rng::Rng;
 use setupbook_tests::tables::{self, TruthTable};
 
 #[test]
 fn ranks_and_spans_agree_with_the_paper() {
-    let seed = Rng::seed_of_run();
-    println!("seed {seed}");
-    let mut comparison = Comparison::new(seed);
+    let mut comparison = Comparison::of_run();
     comparison.run(&[
         ("all functions of up to 3 settings", all_small_functions),
         ("random functions of 4 to 9 settings", random_functions),

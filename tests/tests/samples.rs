@@ -3,7 +3,6 @@
 use setupbook_tests::call::{Answer, Call, Outcome, Refusal};
 use setupbook_tests::comparison::{front, Comparison};
 use setupbook_tests::layout::{bytes_of, words_of};
-use setupbook_tests::rng::Rng;
 
 const A: [u64; 4] = [
     0x0C00000060000006,
@@ -92,7 +91,7 @@ struct Sampler {
 impl Sampler {
     fn new() -> Sampler {
         Sampler {
-            comparison: Comparison::new(Rng::seed_of_run()),
+            comparison: Comparison::of_run(),
         }
     }
 
@@ -182,7 +181,7 @@ fn parts() {
 
 #[test]
 fn written_parts() {
-    let mut comparison = Comparison::new(Rng::seed_of_run());
+    let mut comparison = Comparison::of_run();
     let table = bytes_of(&A);
     let mut write = |k, j, out_len| {
         let (sheet, out) = ([0xFF; 8 * 526], vec![0xFF; out_len]);

@@ -14,7 +14,7 @@ use Rattle.diagram.proofs.Agree.{ordered-sides, agree-height, agree-side}
 use Rattle.cutting.specs.Cut.{follow, cutEdge, cutOther, Cut}
 use Rattle.cutting.proofs.Follow.{choose, edge-zero, edge-suc, cutSide, record-sides, path-inside, path-low, half-low, other-inside, side-inside}
 
-module _ (w : Words) (n B : ℕ) (D : Ordered w n B) (bound r : ℕ) (inside : r / 2 ≤ B) (from : Bool) (w′ : Words) (C : Cut w n B bound r from w′) (few : B + n < 268435455) where
+module _ (w : Words) (n B : ℕ) (D : Ordered w n B) (bound r : ℕ) (inside : r / 2 ≤ B) (lower : Bool) (w′ : Words) (C : Cut w n B bound r lower w′) (few : B + n < 268435455) where
   -- the nodes before
   pub records-before : (k : ℕ) → k < B → w (suc k) ≡ w′ (suc k)
   records-before k l = sym (C .as-before (suc k) l)
@@ -24,19 +24,21 @@ module _ (w : Words) (n B : ℕ) (D : Ordered w n B) (bound r : ℕ) (inside : r
 
   -- the edges of a node that the cut adds
   abbrev edge : ℕ → Bool → ℕ
-  edge h b = cutSide w B n bound from r h b
+  edge h b = cutSide w B n bound lower r h b
 
   edge-small : (h : ℕ) → h < n → (b : Bool) → edge h b < 536870912
-  edge-small h l b = omega (arith, side-inside w n B D bound r inside from h l b)
+  edge-small h l b = omega (arith, side-inside w n B D bound r inside lower h l b)
 
   record-is : (h : ℕ) → h < n → w′ (B + suc h) ≡ recordOf (suc h) (edge h true) (edge h false)
-  record-is h l = C .records (suc h) (omega arith) l ∙ record-sides w B n bound from r h
+  record-is h l = C .records (suc h) (omega arith) l ∙ record-sides w B n bound lower r h
 
+  -- a node that the cut adds has the height of its setting
   pub cut-height : (h : ℕ) → h < n → height w′ (B + suc h) ≡ suc h
   cut-height h l =
       height-node w′ (B + suc h) (omega arith) ∙ ap highField (record-is h l)
       ∙ record-high (suc h) (edge h true) (edge h false) (edge-small h l true) (edge-small h l false)
 
+  -- ... and these edges
   pub cut-side : (b : Bool) (h : ℕ) → h < n → side w′ b (B + suc h) ≡ edge h b
   unfolding thenEdge elseEdge
   cut-side true h l = ap middleField (record-is h l) ∙ record-middle (suc h) (edge h true) (edge h false) (edge-small h l true) (edge-small h l false)
@@ -49,12 +51,12 @@ module _ (w : Words) (n B : ℕ) (D : Ordered w n B) (bound r : ℕ) (inside : r
       let e : cutEdge w B n bound r (suc h) / 2 ≡ B + suc h = omega (arith, edge-suc w B n bound r h) in
       omega (arith, ap (height w′) e, cut-height h (omega arith))
 
-  other-low : (h : ℕ) → h < n → height w (cutOther w n bound from r (suc h) / 2) < suc h
+  other-low : (h : ℕ) → h < n → height w (cutOther w n bound lower r (suc h) / 2) < suc h
   unfolding cutOther height
-  other-low h l = choose (λ a. height w (a / 2) < suc h) (Bool·beq (bit (suc h) bound) from) (omega arith) (half-low w n B D bound r inside h l (not (bit (suc h) bound)) .1)
+  other-low h l = choose (λ a. height w (a / 2) < suc h) (Bool·beq (bit (suc h) bound) lower) (omega arith) (half-low w n B D bound r inside h l (not (bit (suc h) bound)) .1)
 
-  other-lower : (h : ℕ) → h < n → height w′ (cutOther w n bound from r (suc h) / 2) < suc h
-  other-lower h l = rw (← (height-before (cutOther w n bound from r (suc h) / 2) (other-inside w n B D bound r inside from h l))) (other-low h l)
+  other-lower : (h : ℕ) → h < n → height w′ (cutOther w n bound lower r (suc h) / 2) < suc h
+  other-lower h l = rw (← (height-before (cutOther w n bound lower r (suc h) / 2) (other-inside w n B D bound r inside lower h l))) (other-low h l)
 
   -- what is true of the nodes before, and of those that the cut adds
   each : (P : ℕ → Type 0) → ((k : ℕ) → k < B → P (suc k)) → ((h : ℕ) → h < n → P (B + suc h)) → (k : ℕ) → k < B + n → P (suc k)
@@ -63,6 +65,7 @@ module _ (w : Words) (n B : ℕ) (D : Ordered w n B) (bound r : ℕ) (inside : r
       later : B ≤ k → P (suc k)
       later m = let e : B + suc (k - B) ≡ suc k = omega arith in subst P e (g (k - B) (omega arith))
 
+  -- so all nodes are in order
   pub cut-ordered : Ordered w′ n (B + n)
   cut-ordered =
       ordered-sides w′ n (B + n)
@@ -78,8 +81,9 @@ module _ (w : Words) (n B : ℕ) (D : Ordered w n B) (bound r : ℕ) (inside : r
       added : (b : Bool) (h : ℕ) → h < n → (side w′ b (B + suc h) / 2 < B + suc h) × (height w′ (side w′ b (B + suc h) / 2) < height w′ (B + suc h))
       added b h l =
           rw (cut-side b h l, cut-height h l)
-          (omega (arith, side-inside w n B D bound r inside from h l b), choose (λ a. height w′ (a / 2) < suc h) (Bool·beq b (bit (suc h) bound)) (inner-lower h l) (other-lower h l))
+          (omega (arith, side-inside w n B D bound r inside lower h l b), choose (λ a. height w′ (a / 2) < suc h) (Bool·beq b (bit (suc h) bound)) (inner-lower h l) (other-lower h l))
 
+  -- the heights by the numbers of the nodes
   pub cut-heights : (v : ℕ) → B < v → v ≤ B + n → height w′ v ≡ v - B
   cut-heights v l m =
       let e : B + suc (v - B - 1) ≡ v = omega arith in

@@ -19,24 +19,26 @@ use Rattle.cutting.proofs.Follow.{follow-next, path-inside}
 use Rattle.cutting.proofs.Steps.{nodeWord, record-parts, follow-none}
 
 -- the records above height h are written, and the bound has led to edge p
-pub record Cutting (w : Words) (n B bound r : ℕ) (from : Bool) (h p : ℕ) (w′ : Words) : Type 0 where
+pub record Cutting (w : Words) (n B bound r : ℕ) (lower : Bool) (h p : ℕ) (w′ : Words) : Type 0 where
   pub as-before : (k : ℕ) → k ≤ B → w′ k ≡ w k
-  pub records : (g : ℕ) → h < g → g ≤ n → w′ (B + g) ≡ cutRecord w B n bound from r g
+  pub records : (g : ℕ) → h < g → g ≤ n → w′ (B + g) ≡ cutRecord w B n bound lower r g
   pub path : p ≡ follow w n bound r (n - h)
 
-pub cutting-start : (w : Words) (n B bound r : ℕ) (from : Bool) → Cutting w n B bound r from n r w
-cutting-start w n B bound r from = record {
+-- before the first step
+pub cutting-start : (w : Words) (n B bound r : ℕ) (lower : Bool) → Cutting w n B bound r lower n r w
+cutting-start w n B bound r lower = record {
   as-before = λ k l. refl;
   records = λ g a b. absurd (omega arith);
   path = follow-none w n bound r;
 }
 
-pub cutting-end : (w : Words) (n B bound r : ℕ) (from : Bool) (h p : ℕ) (w′ : Words) → h ≤ 0 → Cutting w n B bound r from h p w′ → Cut w n B bound r from w′
-cutting-end w n B bound r from h p w′ z C = record { as-before = C .as-before; records = λ g a b. C .records g (omega arith) b }
+-- after the last one
+pub cutting-end : (w : Words) (n B bound r : ℕ) (lower : Bool) (h p : ℕ) (w′ : Words) → h ≤ 0 → Cutting w n B bound r lower h p w′ → Cut w n B bound r lower w′
+cutting-end w n B bound r lower h p w′ z C = record { as-before = C .as-before; records = λ g a b. C .records g (omega arith) b }
 
 -- the path's edge leads to a node from before
-pub cutting-inside : (w : Words) (n B bound r : ℕ) (from : Bool) (h p : ℕ) (w′ : Words) → Ordered w n B → r / 2 ≤ B → Cutting w n B bound r from h p w′ → p / 2 ≤ B
-cutting-inside w n B bound r from h p w′ D inside C = rw (C .path) (path-inside w n B D bound r inside h)
+pub cutting-inside : (w : Words) (n B bound r : ℕ) (lower : Bool) (h p : ℕ) (w′ : Words) → Ordered w n B → r / 2 ≤ B → Cutting w n B bound r lower h p w′ → p / 2 ≤ B
+cutting-inside w n B bound r lower h p w′ D inside C = rw (C .path) (path-inside w n B D bound r inside h)
 
 -- the cut's edge
 pub end-none : (w : Words) (B n bound r : ℕ) → n ≡ 0 → r ≡ cutEdge w B n bound r n
@@ -53,10 +55,10 @@ unfolding cofactor thenEdge elseEdge
 cofactor-agree w w′ B f h b e l = rw (f (e / 2) l, agree-height w′ w B (λ k m. f (suc k) m) (e / 2) l)
 
 -- a step at height h
-module _ (w : Words) (n B bound r : ℕ) (from : Bool) (h p : ℕ) (w′ : Words) (D : Ordered w n B) (inside : r / 2 ≤ B) (C : Cutting w n B bound r from h p w′) (some : 0 < h) (low : h ≤ n)
-    (word next : ℕ) (S : IsStep w′ B bound from h p word next) where
+module _ (w : Words) (n B bound r : ℕ) (lower : Bool) (h p : ℕ) (w′ : Words) (D : Ordered w n B) (inside : r / 2 ≤ B) (C : Cutting w n B bound r lower h p w′) (some : 0 < h) (low : h ≤ n)
+    (word next : ℕ) (S : IsStep w′ B bound lower h p word next) where
   half : (b : Bool) → cofactor w′ h b p ≡ cofactor w h b p
-  half b = cofactor-agree w w′ B (C .as-before) h b p (cutting-inside w n B bound r from h p w′ D inside C)
+  half b = cofactor-agree w w′ B (C .as-before) h b p (cutting-inside w n B bound r lower h p w′ D inside C)
 
   step-path : next ≡ follow w n bound r (n - (h - 1))
   step-path =
@@ -64,13 +66,13 @@ module _ (w : Words) (n B bound r : ℕ) (from : Bool) (h p : ℕ) (w′ : Words
       S .next-is ∙ half (bit h bound) ∙ ap (cofactor w h (bit h bound)) (C .path)
       ∙ sym (subst (λ (g : ℕ). follow w n bound r (n - (h - 1)) ≡ cofactor w g (bit g bound) (follow w n bound r (n - g))) e (follow-next w n bound r (h - 1) (omega arith)))
 
-  step-record : word ≡ cutRecord w B n bound from r h
+  step-record : word ≡ cutRecord w B n bound lower r h
   step-record =
-      S .word-is ∙ record-parts w′ B h bound from p h p some (le-refl h) (follow-none w′ h bound p)
-      ∙ ap₂ (λ (x y : ℕ). nodeWord B h (bit h bound) from x y) (half (bit h bound)) (half (not (bit h bound)))
-      ∙ sym (record-parts w B n bound from r h p some low (C .path))
+      S .word-is ∙ record-parts w′ B h bound lower p h p some (le-refl h) (follow-none w′ h bound p)
+      ∙ ap₂ (λ (x y : ℕ). nodeWord B h (bit h bound) lower x y) (half (bit h bound)) (half (not (bit h bound)))
+      ∙ sym (record-parts w B n bound lower r h p some low (C .path))
 
-  cutting-next : (w″ : Words) → w″ (B + h) ≡ word → ((k : ℕ) → (k ≡ B + h → ⊥) → w″ k ≡ w′ k) → Cutting w n B bound r from (h - 1) next w″
+  cutting-next : (w″ : Words) → w″ (B + h) ≡ word → ((k : ℕ) → (k ≡ B + h → ⊥) → w″ k ≡ w′ k) → Cutting w n B bound r lower (h - 1) next w″
   cutting-next w″ here other = record {
     as-before = λ k l. other k (λ q. omega arith) ∙ C .as-before k l;
     records = λ g l m. elim (tri g h) [
@@ -82,11 +84,11 @@ module _ (w : Words) (n B bound r : ℕ) (from : Bool) (h p : ℕ) (w′ : Words
   }
 
 -- ... whose node is stored behind the table
-pub cut-down : (t : Words) (n N skip bound r : ℕ) (from : Bool) (h p : ℕ) (l₀ l : List ℕ) → Ordered (extended t N l₀) n (N + skip) → r / 2 ≤ N + skip
-    → Cutting (extended t N l₀) n (N + skip) bound r from h p (extended t N l) → 0 < h → h ≤ n → (word next : ℕ) → IsStep (extended t N l) (N + skip) bound from h p word next
-    → skip + h < length l → Cutting (extended t N l₀) n (N + skip) bound r from (h - 1) next (extended t N (set l (skip + h) word))
-cut-down t n N skip bound r from h p l₀ l D inside C some low word next S room =
+pub cut-down : (t : Words) (n N skip bound r : ℕ) (lower : Bool) (h p : ℕ) (l₀ l : List ℕ) → Ordered (extended t N l₀) n (N + skip) → r / 2 ≤ N + skip
+    → Cutting (extended t N l₀) n (N + skip) bound r lower h p (extended t N l) → 0 < h → h ≤ n → (word next : ℕ) → IsStep (extended t N l) (N + skip) bound lower h p word next
+    → skip + h < length l → Cutting (extended t N l₀) n (N + skip) bound r lower (h - 1) next (extended t N (set l (skip + h) word))
+cut-down t n N skip bound r lower h p l₀ l D inside C some low word next S room =
     let e : N + (skip + h) ≡ N + skip + h = omega arith in
-    cutting-next (extended t N l₀) n (N + skip) bound r from h p (extended t N l) D inside C some low word next S (extended t N (set l (skip + h) word))
+    cutting-next (extended t N l₀) n (N + skip) bound r lower h p (extended t N l) D inside C some low word next S (extended t N (set l (skip + h) word))
     (rw e at (set-here t N l (skip + h) word (omega arith) room))
     (λ k z. set-other t N l (skip + h) word (omega arith) k (λ q. z (omega arith)))

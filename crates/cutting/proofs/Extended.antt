@@ -1,4 +1,4 @@
--- The words of a table with further nodes behind it. Assumes nothing.
+-- The words of a table with further nodes behind it, and the room for them. Assumes nothing.
 use Prim.Native.Nat.{ℕ, suc, _+_, _-_, _≤_, _<_}
 use mathlib.Core.Path.{_≡_, refl, sym, _∙_}
 use mathlib.Core.List.{List}
@@ -8,8 +8,13 @@ use lib.Seq.{getD-set-same, getD-set-other}
 use borrow.Author.Tests.{le-leb, lt-leb}
 use Rattle.words.proofs.Cases.{less, same, more, tri}
 use Rattle.diagram.specs.Format.{Words}
-use Rattle.cutting.specs.Cut.{extended}
+use Rattle.cutting.specs.Cut.{extended, Room}
 
+-- a map of the same length has the same room
+pub room-same : {table map map′ : List ℕ} {n N : ℕ} → Room table map n N → length map′ ≡ length map → Room table map′ n N
+room-same r e = record { table-long = r .table-long; map-long = omega (arith, r .map-long); few-settings = r .few-settings; few-nodes = r .few-nodes }
+
+-- a word of the table, and one behind it
 pub extended-low : (w : Words) (N : ℕ) (l : List ℕ) (v r : ℕ) → v ≤ N → r ≡ w v → r ≡ extended w N l v
 unfolding extended
 extended-low w N l v r m e = rw (le-leb v N m) e

@@ -37,11 +37,12 @@ edge-suc w B n bound r h = rw (ne-eqb (suc h) 0 (λ q. omega arith))
 
 -- the edge of the cut's node of height h + 1 for one setting: along the bound if the bound has it
 abbrev pub cutSide : Words → ℕ → ℕ → ℕ → Bool → ℕ → ℕ → Bool → ℕ
-cutSide w B n bound side r h b = cond (Bool·beq b (bit (suc h) bound)) (cutEdge w B n bound r h) (cutOther w n bound side r (suc h))
+cutSide w B n bound lower r h b = cond (Bool·beq b (bit (suc h) bound)) (cutEdge w B n bound r h) (cutOther w n bound lower r (suc h))
 
-pub record-sides : (w : Words) (B n bound : ℕ) (side : Bool) (r h : ℕ) → cutRecord w B n bound side r (suc h) ≡ recordOf (suc h) (cutSide w B n bound side r h true) (cutSide w B n bound side r h false)
+-- the node's record has these edges
+pub record-sides : (w : Words) (B n bound : ℕ) (lower : Bool) (r h : ℕ) → cutRecord w B n bound lower r (suc h) ≡ recordOf (suc h) (cutSide w B n bound lower r h true) (cutSide w B n bound lower r h false)
 unfolding cutRecord
-record-sides w B n bound side r h = let q : suc h - 1 ≡ h = omega arith in rw q (go (bit (suc h) bound) (cutEdge w B n bound r h) (cutOther w n bound side r (suc h)))
+record-sides w B n bound lower r h = let q : suc h - 1 ≡ h = omega arith in rw q (go (bit (suc h) bound) (cutEdge w B n bound r h) (cutOther w n bound lower r (suc h)))
   where
     go : (b : Bool) (x y : ℕ) → cond b (recordOf (suc h) x y) (recordOf (suc h) y x) ≡ recordOf (suc h) (cond (Bool·beq true b) x y) (cond (Bool·beq false b) x y)
     go true x y = refl
@@ -61,24 +62,27 @@ module _ (w : Words) (n B : ℕ) (D : Ordered w n B) (bound r : ℕ) (inside : r
   abbrev pub path : ℕ → ℕ
   path h = follow w n bound r (n - h)
 
+  -- it leads to a node, of height h at most
   pub path-inside : (h : ℕ) → path h / 2 ≤ B
   path-inside h = follow-low (n - h) (omega arith) .0
 
   pub path-low : (h : ℕ) → h ≤ n → height w (path h / 2) ≤ h
   path-low h l = omega (arith, follow-low (n - h) (omega arith) .1)
 
+  -- so do its cofactors, to lower ones
   pub half-low : (h : ℕ) → h < n → (b : Bool) → (cofactor w (suc h) b (path (suc h)) / 2 ≤ B) × (height w (cofactor w (suc h) b (path (suc h)) / 2) < suc h)
   half-low h l b =
       let a = cofactor-low w n B D (path (suc h)) (suc h) (path-inside (suc h)) (path-low (suc h) l) (omega arith) b in
       (omega (arith, path-inside (suc h), a .0), a .1)
 
+  -- the cut's edges lead to nodes before, or to nodes of the cut that are lower
   pub edge-inside : (h : ℕ) → cutEdge w B n bound r h / 2 ≤ B + h
   edge-inside zero = omega (arith, path-inside 0, edge-zero w B n bound r)
   edge-inside (suc h) = omega (arith, edge-suc w B n bound r h)
 
-  pub other-inside : (side : Bool) (h : ℕ) → h < n → cutOther w n bound side r (suc h) / 2 ≤ B
+  pub other-inside : (lower : Bool) (h : ℕ) → h < n → cutOther w n bound lower r (suc h) / 2 ≤ B
   unfolding cutOther
-  other-inside side h l = choose (λ a. a / 2 ≤ B) (Bool·beq (bit (suc h) bound) side) (omega arith) (half-low h l (not (bit (suc h) bound)) .0)
+  other-inside lower h l = choose (λ a. a / 2 ≤ B) (Bool·beq (bit (suc h) bound) lower) (omega arith) (half-low h l (not (bit (suc h) bound)) .0)
 
-  pub side-inside : (side : Bool) (h : ℕ) → h < n → (b : Bool) → cutSide w B n bound side r h b / 2 ≤ B + h
-  side-inside side h l b = choose (λ a. a / 2 ≤ B + h) (Bool·beq b (bit (suc h) bound)) (edge-inside h) (omega (arith, other-inside side h l))
+  pub side-inside : (lower : Bool) (h : ℕ) → h < n → (b : Bool) → cutSide w B n bound lower r h b / 2 ≤ B + h
+  side-inside lower h l b = choose (λ a. a / 2 ≤ B + h) (Bool·beq b (bit (suc h) bound)) (edge-inside h) (omega (arith, other-inside lower h l))

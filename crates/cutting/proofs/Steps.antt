@@ -8,32 +8,32 @@ use lib.Dec.{eqb, ltb}
 use borrow.Author.Tests.{ne-eqb}
 use Rattle.diagram.specs.Format.{Words, middleField, lowField, height, thenEdge, elseEdge}
 use Rattle.diagram.specs.Meaning.{bit}
-use Rattle.diagram.specs.Reading.{turn, recordOf, cofactor}
+use Rattle.diagram.specs.Reading.{recordOf, cofactor}
 use Rattle.diagram.proofs.Paths.{side}
+use Rattle.diagram.proofs.Edges.{turn-lt}
 use Rattle.cutting.specs.Cut.{follow, cutEdge, cutOther, cutRecord, IsStep}
 use Rattle.cutting.proofs.Follow.{choose, follow-next}
 
 -- a cofactor of an edge of 29 bits has 29 bits
 cofactor-small : (w : Words) (h : ℕ) (b : Bool) (e : ℕ) → e < 536870912 → cofactor w h b e < 536870912
 unfolding cofactor thenEdge elseEdge middleField lowField
-cofactor-small w h b e l = choose (λ a. a < 536870912) (ltb (height w (e / 2)) h) l (turned (e % 2) (side w b (e / 2)) (choose (λ a. a < 536870912) b (omega arith) (omega arith)))
-  where
-    turned : (f a : ℕ) → a < 536870912 → turn f a < 536870912
-    turned zero a l = unfold turn in l
-    turned (suc f) a l = unfold turn in omega arith
+cofactor-small w h b e l =
+    choose (λ a. a < 536870912) (ltb (height w (e / 2)) h) l
+    (turn-lt (e % 2) (side w b (e / 2)) 268435456 (choose (λ a. a < 536870912) b (omega arith) (omega arith)))
 
 -- the record of a cut's node of height h, where the bound has setting b and goes on by `next`, and leaves `rest`
 abbrev pub nodeWord : ℕ → ℕ → Bool → Bool → ℕ → ℕ → ℕ
-nodeWord B h b side next rest =
-    cond b (recordOf h (cond (eqb (h - 1) 0) next (2 * (B + (h - 1)))) (cond (Bool·beq b side) 1 rest))
-    (recordOf h (cond (Bool·beq b side) 1 rest) (cond (eqb (h - 1) 0) next (2 * (B + (h - 1)))))
+nodeWord B h b lower next rest =
+    cond b (recordOf h (cond (eqb (h - 1) 0) next (2 * (B + (h - 1)))) (cond (Bool·beq b lower) 1 rest))
+    (recordOf h (cond (Bool·beq b lower) 1 rest) (cond (eqb (h - 1) 0) next (2 * (B + (h - 1)))))
 
-pub record-parts : (w : Words) (B n bound : ℕ) (from : Bool) (r h p : ℕ) → 0 < h → h ≤ n → p ≡ follow w n bound r (n - h)
-    → cutRecord w B n bound from r h ≡ nodeWord B h (bit h bound) from (cofactor w h (bit h bound) p) (cofactor w h (not (bit h bound)) p)
+-- the cut's record is that word
+pub record-parts : (w : Words) (B n bound : ℕ) (lower : Bool) (r h p : ℕ) → 0 < h → h ≤ n → p ≡ follow w n bound r (n - h)
+    → cutRecord w B n bound lower r h ≡ nodeWord B h (bit h bound) lower (cofactor w h (bit h bound) p) (cofactor w h (not (bit h bound)) p)
 unfolding cutRecord cutEdge cutOther
-record-parts w B n bound from r h p some low e =
+record-parts w B n bound lower r h p some low e =
     ap₂ (λ (x y : ℕ). cond (bit h bound) (recordOf h x y) (recordOf h y x)) (inner h some low e)
-    (ap (λ (a : ℕ). cond (Bool·beq (bit h bound) from) 1 (cofactor w h (not (bit h bound)) a)) (sym e))
+    (ap (λ (a : ℕ). cond (Bool·beq (bit h bound) lower) 1 (cofactor w h (not (bit h bound)) a)) (sym e))
   where
     inner : (h : ℕ) → 0 < h → h ≤ n → p ≡ follow w n bound r (n - h)
         → cond (eqb (h - 1) 0) (follow w n bound r n) (2 * (B + (h - 1))) ≡ cond (eqb (h - 1) 0) (cofactor w h (bit h bound) p) (2 * (B + (h - 1)))
@@ -47,9 +47,9 @@ unfolding follow
 follow-none w h bound p = ap (follow w h bound p) (sym (sub-self h))
 
 -- from the cofactors of the edge p
-module _ (w : Words) (B bound : ℕ) (from : Bool) (h p : ℕ) (on : Bool) (on-is : on ≡ bit h bound) (high low : ℕ) (high-is : high ≡ cofactor w h true p) (low-is : low ≡ cofactor w h false p)
+module _ (w : Words) (B bound : ℕ) (lower : Bool) (h p : ℕ) (on : Bool) (on-is : on ≡ bit h bound) (high low : ℕ) (high-is : high ≡ cofactor w h true p) (low-is : low ≡ cofactor w h false p)
     (next rest : ℕ) (next-is : next ≡ cond on high low) (rest-is : rest ≡ cond (not on) high low)
-    (inner outer : ℕ) (inner-is : inner ≡ cond (eqb (h - 1) 0) next (2 * (B + (h - 1)))) (outer-is : outer ≡ cond (Bool·beq on from) 1 rest) where
+    (inner outer : ℕ) (inner-is : inner ≡ cond (eqb (h - 1) 0) next (2 * (B + (h - 1)))) (outer-is : outer ≡ cond (Bool·beq on lower) 1 rest) where
   half : (b : Bool) → cond b high low ≡ cofactor w h b p
   half true = high-is
   half false = low-is
@@ -60,14 +60,16 @@ module _ (w : Words) (B bound : ℕ) (from : Bool) (h p : ℕ) (on : Bool) (on-i
   rest-half : rest ≡ cofactor w h (not (bit h bound)) p
   rest-half = rest-is ∙ half (not on) ∙ ap (λ (b : Bool). cofactor w h (not b) p) on-is
 
+  -- the edges fit a field
   pub step-small : h ≤ 63 → B < 134217728 → p < 536870912 → (inner < 536870912) × (outer < 536870912)
   step-small few room l = (
     rw inner-is (choose (λ a. a < 536870912) (eqb (h - 1) 0) (rw next-half (cofactor-small w h (bit h bound) p l)) (omega arith)),
-    rw outer-is (choose (λ a. a < 536870912) (Bool·beq on from) (omega arith) (rw rest-half (cofactor-small w h (not (bit h bound)) p l))),
+    rw outer-is (choose (λ a. a < 536870912) (Bool·beq on lower) (omega arith) (rw rest-half (cofactor-small w h (not (bit h bound)) p l))),
   )
 
-  pub step-is : 0 < h → (word : ℕ) → word ≡ cond on (recordOf h inner outer) (recordOf h outer inner) → IsStep w B bound from h p word next
+  -- the word is the one of the step
+  pub step-is : 0 < h → (word : ℕ) → word ≡ cond on (recordOf h inner outer) (recordOf h outer inner) → IsStep w B bound lower h p word next
   step-is some word e = record {
-    word-is = e ∙ rw (inner-is, outer-is, on-is, next-half, rest-half) (sym (record-parts w B h bound from p h p some (le-refl h) (follow-none w h bound p)));
+    word-is = e ∙ rw (inner-is, outer-is, on-is, next-half, rest-half) (sym (record-parts w B h bound lower p h p some (le-refl h) (follow-none w h bound p)));
     next-is = next-half;
   }

@@ -25,23 +25,23 @@ cutEdge w B n bound r h = cond (eqb h 0) (follow w n bound r n) (2 * (B + h))
 
 -- ... the edge for the setting that the bound does not have: all of it, or nothing
 unfoldable pub cutOther : Words → ℕ → ℕ → Bool → ℕ → ℕ → ℕ
-cutOther w n bound side r h = cond (Bool·beq (bit h bound) side) 1 (cofactor w h (not (bit h bound)) (follow w n bound r (n - h)))
+cutOther w n bound lower r h = cond (Bool·beq (bit h bound) lower) 1 (cofactor w h (not (bit h bound)) (follow w n bound r (n - h)))
 
--- ... and the record of node B + h. Side true keeps what is not below the bound, side false what is not above it
+-- ... and the record of node B + h. `lower` keeps what is not below the bound, or else what is not above it
 unfoldable pub cutRecord : Words → ℕ → ℕ → ℕ → Bool → ℕ → ℕ → ℕ
-cutRecord w B n bound side r h =
-    cond (bit h bound) (recordOf h (cutEdge w B n bound r (h - 1)) (cutOther w n bound side r h))
-    (recordOf h (cutOther w n bound side r h) (cutEdge w B n bound r (h - 1)))
+cutRecord w B n bound lower r h =
+    cond (bit h bound) (recordOf h (cutEdge w B n bound r (h - 1)) (cutOther w n bound lower r h))
+    (recordOf h (cutOther w n bound lower r h) (cutEdge w B n bound r (h - 1)))
 
 -- a step of a cut at height h, where the bound leads to edge p: the node's word, and the edge by which the bound goes on
-pub record IsStep (w : Words) (B bound : ℕ) (side : Bool) (h p word next : ℕ) : Type 0 where
-  pub word-is : word ≡ cutRecord w B h bound side p h
+pub record IsStep (w : Words) (B bound : ℕ) (lower : Bool) (h p word next : ℕ) : Type 0 where
+  pub word-is : word ≡ cutRecord w B h bound lower p h
   pub next-is : next ≡ cofactor w h (bit h bound) p
 
 -- w′ is w with the nodes of a cut
-pub record Cut (w : Words) (n B bound r : ℕ) (side : Bool) (w′ : Words) : Type 0 where
+pub record Cut (w : Words) (n B bound r : ℕ) (lower : Bool) (w′ : Words) : Type 0 where
   pub as-before : (k : ℕ) → k ≤ B → w′ k ≡ w k
-  pub records : (h : ℕ) → 0 < h → h ≤ n → w′ (B + h) ≡ cutRecord w B n bound side r h
+  pub records : (h : ℕ) → 0 < h → h ≤ n → w′ (B + h) ≡ cutRecord w B n bound lower r h
 
 -- a table of N nodes, then n nodes of heights 1 to n, and then n more
 pub record TwiceCut (R : Words) (n N : ℕ) : Type 0 where

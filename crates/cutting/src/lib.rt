@@ -9,6 +9,7 @@ ghost use Rattle.diagram.specs.Meaning.{bit};
 ghost use Rattle.diagram.specs.Ordered.{Ordered};
 ghost use Rattle.diagram.specs.Reading.{cofactor, recordOf};
 ghost use Rattle.cutting.specs.Cut.{extended, cutEdge, Cut, IsStep};
+use diagram::Cofactors;
 use diagram::Edge;
 use diagram::Node;
 use diagram::Record;
@@ -26,23 +27,6 @@ pub fn word_in(table: &[u8], more: &[u64; 128], nodes: usize, v: Node) -> u64
     more[i]
 }
 
-// An edge as it goes on where one setting is on (high) or off (low).
-struct Cofactors {
-    high: Edge,
-    low: Edge,
-}
-
-impl Cofactors {
-    fn at(self, on: bool) -> Edge
-        ensures { λ r. ⌜ r .value ≡ cond on (self .high .value) (self .low .value) ⌝ }
-    {
-        if on {
-            return self.high;
-        }
-        self.low
-    }
-}
-
 // The cofactors of edge e by the setting of height h.
 fn cofactors_in(table: &[u8], more: &[u64; 128], nodes: usize, e: Edge, h: u64) -> Cofactors
     requires { ⌜ (8 * nodes + 8 ≤ length (now table)) × (e .value / 2 < nodes + 128) × (0 < h) ⌝ }
@@ -57,11 +41,7 @@ fn cofactors_in(table: &[u8], more: &[u64; 128], nodes: usize, e: Edge, h: u64) 
     if record.height < h {
         return Cofactors { high: e, low: e };
     }
-    let over = e.flagged();
-    Cofactors {
-        high: record.high.turned(over),
-        low: record.low.turned(over),
-    }
+    record.cofactors(e)
 }
 
 // Whether setup x has the setting of height h.

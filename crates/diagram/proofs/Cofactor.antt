@@ -3,17 +3,16 @@ use Prim.Native.Nat.{ℕ, zero, suc, _+_, _-_, _/_, _%_, _^_, _≤_, _<_}
 use mathlib.Core.Path.{_≡_, refl, sym, ap, subst, _∙_}
 use mathlib.Core.Bool.{Bool, true, false, cond}
 use native.Mathlib.Omega.{arith}
-use lib.Dec.{eqb, ltb}
+use lib.Dec.{ltb}
 use borrow.Author.Tests.{ltb-true, ltb-false, lt-ltb, le-ltb}
 use Rattle.diagram.specs.Format.{Words, height}
 use Rattle.diagram.specs.Meaning.{flip, plain, under}
-use Rattle.diagram.specs.Count.{indicator}
 use Rattle.diagram.specs.Ordered.{Ordered}
 use Rattle.diagram.specs.Reading.{turn, cofactor}
 use Rattle.diagram.proofs.Bits.{withBit, with-mod, with-off, with-on}
 use Rattle.diagram.proofs.Paths.{side, side-lower}
 use Rattle.diagram.proofs.Local.{under-agree, node-with}
-use Rattle.diagram.proofs.Edges.{flag-is, turn-node, turn-under}
+use Rattle.diagram.proofs.Edges.{turn-node, turn-under}
 
 -- a node of some height is not the sink
 pub no-sink : (w : Words) (k : ℕ) → 0 < height w k → 0 < k
@@ -30,10 +29,9 @@ module _ (w : Words) (e h v g : ℕ) (v-is : v ≡ e / 2) (g-is : g ≡ height w
   unfolding cofactor
   passes-below l b = rw (lt-ltb (height w (e / 2)) h (omega (arith, at)))
 
-  pub goes-on : h ≤ g → (b f : Bool) (a c : ℕ) → a ≡ side w b v → f ≡ eqb (e % 2) 1 → c ≡ turn (indicator f) a → c ≡ cofactor w h b e
+  pub goes-on : h ≤ g → (b : Bool) (a c : ℕ) → a ≡ side w b v → c ≡ turn (e % 2) a → c ≡ cofactor w h b e
   unfolding cofactor
-  goes-on l b f a c a-is f-is q =
-      q ∙ rw (le-ltb (height w (e / 2)) h (omega (arith, at)), f-is, flag-is (e % 2) (omega arith), a-is, v-is)
+  goes-on l b a c a-is q = q ∙ rw (le-ltb (height w (e / 2)) h (omega (arith, at)), a-is, v-is)
 
 module _ (w : Words) (n N : ℕ) (D : Ordered w n N) (e h : ℕ) (inside : e / 2 ≤ N) (low : height w (e / 2) ≤ h) (some : 0 < h) where
   -- a cofactor leads to no greater node, below height h

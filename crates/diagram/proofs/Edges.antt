@@ -7,7 +7,6 @@ use lib.Dec.{eqb}
 use borrow.Author.Tests.{eqb-true, eqb-false}
 use Rattle.diagram.specs.Format.{Words}
 use Rattle.diagram.specs.Meaning.{flip, plain, under}
-use Rattle.diagram.specs.Count.{indicator}
 use Rattle.diagram.specs.Reading.{opposite, turn}
 
 -- the flag f of edge e
@@ -27,6 +26,15 @@ module _ (e : ℕ) (f : Bool) (f-is : f ≡ eqb (e % 2) 1) where
   unfolding opposite
   opposite-clear q m c = rw (flag-clear q)
 
+  -- an edge a turned by it
+  pub turned-set : f ≡ true → (a : ℕ) → 2 * (a / 2) + (1 - a % 2) ≡ turn (e % 2) a
+  unfolding turn
+  turned-set q a = rw (flag-set q)
+
+  pub turned-clear : f ≡ false → (a : ℕ) → a ≡ turn (e % 2) a
+  unfolding turn
+  turned-clear q a = rw (flag-clear q)
+
   -- what it permits, with v as its node
   pub under-flagged : (w : Words) (x v : ℕ) → v ≡ e / 2 → f ≡ true → not (plain w v x) ≡ under w e x
   unfolding under flip
@@ -36,18 +44,17 @@ module _ (e : ℕ) (f : Bool) (f-is : f ≡ eqb (e % 2) 1) where
   unfolding under flip
   under-plain w x v v-is q = rw (flag-clear q, v-is)
 
--- the flag as a number
-pub flag-is : (f : ℕ) → f < 2 → indicator (eqb f 1) ≡ f
-unfolding indicator
-flag-is zero l = refl
-flag-is (suc zero) l = refl
-flag-is (suc (suc f)) l = absurd (omega arith)
-
 -- a turned edge leads to the same node
 pub turn-node : (f e : ℕ) → turn f e / 2 ≡ e / 2
 unfolding turn
 turn-node zero e = refl
 turn-node (suc f) e = omega arith
+
+-- ... stays below a limit of edges
+pub turn-lt : (f e m : ℕ) → e < 2 * m → turn f e < 2 * m
+unfolding turn
+turn-lt zero e m l = l
+turn-lt (suc f) e m l = omega arith
 
 -- ... and permits the opposite
 pub turn-under : (w : Words) (f e x : ℕ) → under w (turn f e) x ≡ flip f (under w e x)

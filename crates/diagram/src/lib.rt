@@ -1,5 +1,6 @@
 // Nodes, edges and setups of a table, and the reading of its header and records.
 ghost use mathlib.Core.Path.{_≡_};
+ghost use mathlib.Core.Bool.{cond};
 ghost use Prim.Native.Nat.{_+_, _*_, _/_, _%_, _≤_, _<_, _^_};
 ghost use lib.Dec.{eqb};
 ghost use lib.ListN.{length};
@@ -52,17 +53,34 @@ impl Edge {
         self.value % 2 == 1
     }
 
-    // The edge with its flag turned over, if `over`.
-    pub fn turned(self, over: bool) -> Self
-        ensures { λ r. ⌜ r .value ≡ turn (indicator over) (self .value) ⌝ }
+    // The edge with its flag turned over, if edge e is flagged.
+    pub fn turned_by(self, e: Edge) -> Self
+        ensures { λ r. ⌜ r .value ≡ turn (e .value % 2) (self .value) ⌝ }
     {
-        if over {
-            let e = self.value;
+        if e.flagged() {
+            let a = self.value;
             return Edge {
-                value: 2 * (e / 2) + (1 - e % 2),
+                value: 2 * (a / 2) + (1 - a % 2),
             };
         }
         self
+    }
+}
+
+// An edge as it goes on where one setting is on (high) or off (low).
+pub struct Cofactors {
+    pub high: Edge,
+    pub low: Edge,
+}
+
+impl Cofactors {
+    pub fn at(self, on: bool) -> Edge
+        ensures { λ r. ⌜ r .value ≡ cond on (self .high .value) (self .low .value) ⌝ }
+    {
+        if on {
+            return self.high;
+        }
+        self.low
     }
 }
 
@@ -97,6 +115,16 @@ impl Record {
         ensures { λ r. ⌜ r ≡ recordOf (self .height) (self .high .value) (self .low .value) ⌝ }
     {
         self.height * 288230376151711744 + self.high.value * 536870912 + self.low.value
+    }
+
+    // The cofactors of an edge e to this record's node by the node's own setting: the record's edges, turned over if e is flagged.
+    pub fn cofactors(self, e: Edge) -> Cofactors
+        ensures { λ r. ⌜ (r .high .value ≡ turn (e .value % 2) (self .high .value)) × (r .low .value ≡ turn (e .value % 2) (self .low .value)) ⌝ }
+    {
+        Cofactors {
+            high: self.high.turned_by(e),
+            low: self.low.turned_by(e),
+        }
     }
 
     pub fn of(word: u64) -> Self

@@ -10,11 +10,11 @@ use Rattle.diagram.specs.Format.{Words, highField, middleField, lowField}
 use Rattle.diagram.specs.Reading.{HasFields, turn}
 use Rattle.numbering.specs.Renewal.{image, renew, Renewable, IsKey}
 use Rattle.numbering.proofs.Images.{turn-inj, normal-side, image-small}
-use Rattle.emitting.specs.Written.{numberOf, Own, Emitted, quiet, wrote}
+use Rattle.emitting.specs.Emitting.{recordNumber, HasRecord, Emitted, quiet, wrote}
 
 -- node v's place holds m, which is 1 + an edge to node i
-pub number-is : (map : List ℕ) (v m i : ℕ) → m ≡ wordAt map v → i ≡ (m - 1) / 2 → i ≡ numberOf (wordAt map) v
-unfolding numberOf
+pub number-is : (map : List ℕ) (v m i : ℕ) → m ≡ wordAt map v → i ≡ (m - 1) / 2 → i ≡ recordNumber (wordAt map) v
+unfolding recordNumber
 number-is map v m i m-is i-is = i-is ∙ ap (λ (x : ℕ). (x - 1) / 2) m-is
 
 -- node v, of record z, becomes a word of fields h, t and e
@@ -43,25 +43,28 @@ module _ (map : List ℕ) (v z word flag h t e : ℕ) (N : Renewable map v z) (K
   unfolding renew
   low-is l = F .low-is ∙ ap lowField (K .word-is l) ∙ normal-side (highField z) a b a-small b-small false
 
-  own-not : t ≡ e → Own W v z → ⊥
-  own-not q O = O .apart (turn-inj (a % 2) a b (sym (high-is (O .live)) ∙ q ∙ low-is (O .live)))
+  has-none : t ≡ e → HasRecord W v z → ⊥
+  has-none q O = O .apart (turn-inj (a % 2) a b (sym (high-is (O .live)) ∙ q ∙ low-is (O .live)))
 
   -- the fields of 0 are equal
   none : word ≡ 0 → t ≡ e
   unfolding middleField lowField
   none q = F .middle-is ∙ rw q refl ∙ sym (F .low-is)
 
-  pub own-is : (t ≡ e → ⊥) → Own W v z
-  own-is n = record { live = live; apart = λ q. n (high-is live ∙ ap (turn (a % 2)) q ∙ sym (low-is live)) }
+  -- where the fields differ, the node has a record
+  pub has-record : (t ≡ e → ⊥) → HasRecord W v z
+  has-record n = record { live = live; apart = λ q. n (high-is live ∙ ap (turn (a % 2)) q ∙ sym (low-is live)) }
     where
       live : 0 < W v
       live = elim (tri 0 (W v)) [ less l ↦ l | same q ↦ absurd (n (none (K .dead (sym q)))) | more l ↦ absurd (omega arith) ]
 
+  -- nothing is written
   pub emit-quiet : (out : List ℕ) → t ≡ e → Emitted W out out v z
-  emit-quiet out q = quiet (own-not q) refl
+  emit-quiet out q = quiet (has-none q) refl
 
+  -- the record is written at its number
   pub emit-wrote : (n : t ≡ e → ⊥) (out out′ : List ℕ) (m i : ℕ) → m ≡ W v → i ≡ (m - 1) / 2 → word < 18446744073709551616 → out′ ≡ putWord out i word → Emitted W out out′ v z
   emit-wrote n out out′ m i m-is i-is s q =
-      let O = own-is n in
+      let O = has-record n in
       let w = K .word-is (O .live) in
       wrote O (rw (← w) s) (q ∙ ap₂ (putWord out) (number-is map v m i m-is i-is) w)

@@ -1,2 +1,2 @@
 -- Writing a diagram that is numbered anew.
-pub mod Written
+pub mod Emitting

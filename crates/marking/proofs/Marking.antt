@@ -14,12 +14,7 @@ use Rattle.diagram.specs.Ordered.{Ordered}
 use Rattle.diagram.specs.Reading.{HasFields}
 use Rattle.diagram.proofs.Paths.{side-lower}
 use Rattle.numbering.specs.Numbered.{Wanted, Marked}
-use Rattle.cutting.specs.Cut.{Room}
-use Rattle.marking.specs.Marks.{Spread, Passed, left-out, passed-on}
-
--- as much room in a map of the same length
-pub room-same : (t s s′ : List ℕ) (n N : ℕ) → length s′ ≡ length s → Room t s n N → Room t s′ n N
-room-same t s s′ n N e r = record { table-long = r .table-long; map-long = rw e (r .map-long); few-settings = r .few-settings; few-nodes = r .few-nodes }
+use Rattle.marking.specs.Marks.{Spread, MarkedBelow, left-out, passed-on}
 
 -- the nodes a and b that the record z of node v names, of fields h, t and e
 module _ (R : Words) (n M v z h t e a b : ℕ) (z-is : z ≡ R v) (F : HasFields z h t e) (a-is : a ≡ t / 2) (b-is : b ≡ e / 2) where
@@ -35,8 +30,9 @@ module _ (R : Words) (n M v z h t e a b : ℕ) (z-is : z ≡ R v) (F : HasFields
   pub names-inside : Ordered R n M → 0 < v → v ≤ M → (a ≤ M) × (b ≤ M)
   names-inside D some inside = (omega (arith, side-lower R n M D true v some inside .node, then-names), omega (arith, side-lower R n M D false v some inside .node, else-names))
 
-  pub passed : (s s′ : List ℕ) (m : ℕ) → m ≡ wordAt s v → (m ≡ 0 → ⊥) → Spread (wordAt s) (wordAt s′) a b → Passed R s s′ v
-  passed s s′ m m-is live S = passed-on (omega (arith, live)) (rw (then-names, else-names) S)
+  -- they are marked
+  pub marked-below : (s s′ : List ℕ) (m : ℕ) → m ≡ wordAt s v → (m ≡ 0 → ⊥) → Spread (wordAt s) (wordAt s′) a b → MarkedBelow R s s′ v
+  marked-below s s′ m m-is live S = passed-on (omega (arith, live)) (rw (then-names, else-names) S)
 
 -- what is marked above node v leads to what is marked; node `top` was the first
 pub record Marking (R W : Words) (M top v : ℕ) : Type 0 where
@@ -49,9 +45,11 @@ pub record Marking (R W : Words) (M top v : ℕ) : Type 0 where
 -- after the last node
 pub marking-end : (R W : Words) (M top v root : ℕ) → v ≤ 0 → top ≡ root / 2 → Marking R W M top v → Marked R W M root
 marking-end R W M top v root z e G = record {
-  sink = G .sink;
-  bits = G .bits;
-  closed = record { closed-then = λ k l i. G .leads k (omega arith) l i .0; closed-else = λ k l i. G .leads k (omega arith) l i .1 };
+  marks = record {
+    sink = G .sink;
+    bits = G .bits;
+    closed = record { closed-then = λ k l i. G .leads k (omega arith) l i .0; closed-else = λ k l i. G .leads k (omega arith) l i .1 };
+  };
   top = rw (← e) (G .live);
   wanted = rw (← e) (G .wanted);
 }
@@ -70,7 +68,7 @@ marking-start R s z s′ M top l p S = record {
     zeros u m = ap (λ (x : List ℕ). wordAt x u) p ∙ words-read (λ _. 0) (M + 1) s u (omega arith) (omega arith)
 
 -- one node down
-marking-next : (R : Words) (s s′ : List ℕ) (n M top v : ℕ) → Ordered R n M → v < M → Marking R (wordAt s) M top (suc v) → Passed R s s′ (suc v) → Marking R (wordAt s′) M top v
+marking-next : (R : Words) (s s′ : List ℕ) (n M top v : ℕ) → Ordered R n M → v < M → Marking R (wordAt s) M top (suc v) → MarkedBelow R s s′ (suc v) → Marking R (wordAt s′) M top v
 marking-next R s s′ n M top v D l G (left-out z e) = rw e (record {
   sink = G .sink;
   bits = G .bits;
@@ -100,6 +98,7 @@ marking-next R s s′ n M top v D l G (passed-on live S) = record {
         let b = D .else-node v l in
         elim (S .only (suc k) i) [ inl q ↦ q | inr q ↦ elim q [ inl e ↦ absurd (omega arith) | inr e ↦ absurd (omega arith) ] ]
 
-pub marking-down : (R : Words) (s s′ : List ℕ) (n M top v : ℕ) → Ordered R n M → 0 < v → v ≤ M → Marking R (wordAt s) M top v → Passed R s s′ v → Marking R (wordAt s′) M top (v - 1)
+-- the same of a node by its own number
+pub marking-down : (R : Words) (s s′ : List ℕ) (n M top v : ℕ) → Ordered R n M → 0 < v → v ≤ M → Marking R (wordAt s) M top v → MarkedBelow R s s′ v → Marking R (wordAt s′) M top (v - 1)
 marking-down R s s′ n M top zero D l m G P = absurd (omega arith)
 marking-down R s s′ n M top (suc v) D l m G P = let e : suc v - 1 ≡ v = omega arith in rw e (marking-next R s s′ n M top v D m G P)

@@ -27,6 +27,7 @@ was-marked W W′ k U u l = elim (tri u k) [
   | more q ↦ inl (rw (U .other u (λ e. omega arith)) at l)
 ]
 
+-- one mark after the other
 spread-updates : (W W₁ W′ : Words) (a b : ℕ) → Updated W W₁ a 1 → Updated W₁ W′ b 1 → Spread W W′ a b
 spread-updates W W₁ W′ a b P Q = record {
   keeps = λ u l. live W₁ W′ b Q u (live W W₁ a P u l);

@@ -15,6 +15,6 @@ pub record Spread (W W′ : Words) (a b : ℕ) : Type 0 where
   pub second : 0 < W′ b
 
 -- the nodes that node v leads to are marked, if v is
-pub data Passed (R : Words) (map map′ : List ℕ) (v : ℕ) : Type 0 where
-  left-out : wordAt map v ≡ 0 → map′ ≡ map → Passed R map map′ v
-  passed-on : 0 < wordAt map v → Spread (wordAt map) (wordAt map′) (thenEdge R v / 2) (elseEdge R v / 2) → Passed R map map′ v
+pub data MarkedBelow (R : Words) (map map′ : List ℕ) (v : ℕ) : Type 0 where
+  left-out : wordAt map v ≡ 0 → map′ ≡ map → MarkedBelow R map map′ v
+  passed-on : 0 < wordAt map v → Spread (wordAt map) (wordAt map′) (thenEdge R v / 2) (elseEdge R v / 2) → MarkedBelow R map map′ v

@@ -6,7 +6,7 @@ ghost use Rattle.words.specs.Words.{wordAt};
 ghost use Rattle.diagram.specs.Ordered.{Ordered};
 ghost use Rattle.numbering.specs.Numbered.{Marked};
 ghost use Rattle.cutting.specs.Cut.{extended, Room};
-ghost use Rattle.marking.specs.Marks.{Spread, Passed};
+ghost use Rattle.marking.specs.Marks.{Spread, MarkedBelow};
 use diagram::Edge;
 use diagram::Node;
 use diagram::Record;
@@ -23,7 +23,7 @@ fn mark_two(map: &mut [u8], a: Node, b: Node)
 // Marks the nodes that node v leads to, if v is marked.
 fn mark_below(table: &[u8], more: &[u64; 128], map: &mut [u8], n: usize, nodes: usize, v: Node)
     requires { ⌜ Room (now table) (now map) n nodes × Ordered (extended (wordAt (now table)) nodes (now more)) n (nodes + n + n) × (0 < v .0) × (v .0 ≤ nodes + n + n) ⌝ }
-    ensures { λ _. ⌜ Passed (extended (wordAt (now (table .entry))) nodes (now (more .entry))) (now (map .entry)) (now (map .exit)) (v .0) ⌝ }
+    ensures { λ _. ⌜ MarkedBelow (extended (wordAt (now (table .entry))) nodes (now (more .entry))) (now (map .entry)) (now (map .exit)) (v .0) ⌝ }
 {
     if words::word_at(map, v.0) == 0 {
         return;

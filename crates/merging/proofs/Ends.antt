@@ -1,5 +1,5 @@
 -- Numbering a twice-cut table from its start to its end. Assumes nothing.
-use Prim.Native.Nat.{ℕ, suc, _+_, _/_, _≤_, _<_}
+use Prim.Native.Nat.{ℕ, suc, _+_, _≤_, _<_}
 use mathlib.Core.Path.{_≡_, refl, _∙_}
 use mathlib.Core.Logic.{inl, inr}
 use mathlib.Core.Bool.{Bool, true, false}
@@ -10,17 +10,13 @@ use lib.ListN.{length}
 use Rattle.words.specs.Words.{wordAt}
 use Rattle.diagram.specs.Format.{Words, highField}
 use Rattle.diagram.proofs.Paths.{height-le-settings}
-use Rattle.numbering.specs.Numbered.{Marked, Alike, Finished}
-use Rattle.numbering.proofs.Finish.{start, finish, alike-same, alike-trans}
-use Rattle.cutting.specs.Cut.{TwiceCut, Room}
+use Rattle.numbering.specs.Numbered.{Marks, Alike, AllNumbered}
+use Rattle.numbering.proofs.Finish.{start, all-numbered, alike-same, alike-trans}
+use Rattle.cutting.specs.Cut.{TwiceCut}
 use Rattle.merging.specs.Inner.{front, Done, in-table, in-cut, Merging, Limits, Reached, Passed}
 use Rattle.merging.proofs.Lists.{Left, left-table, left-cut, place}
 use Rattle.merging.proofs.Merge.{few-records, high}
 use Rattle.merging.proofs.Levels.{same-front}
-
--- a map of the same length has the same room
-pub room-same : {t s s′ : List ℕ} {n N : ℕ} → Room t s n N → length s′ ≡ length s → Room t s′ n N
-room-same r e = record { table-long = r .table-long; map-long = omega (arith, r .map-long); few-settings = r .few-settings; few-nodes = r .few-nodes }
 
 -- the same with the fronts under other names
 pub passed-as : {R : Words} {map map′ : List ℕ} {n N limit p q r c′ last′ p′ q′ r′ : ℕ} → q′ ≡ q → r′ ≡ r → Passed R map map′ n N limit p q r c′ last′ p′ → Passed R map map′ n N limit p q′ r′ c′ last′ p′
@@ -37,11 +33,11 @@ reached-trans {map = map} {map₁ = map₁} {map₂ = map₂} a b = record {
 }
 
 -- nothing is numbered yet
-pub reached-first : (R : Words) (map : List ℕ) (n N root : ℕ) → Marked R (wordAt map) (N + n + n) root → Reached R map map n N 1 0 0 1 1 1
-reached-first R map n N root K = record {
+pub reached-first : (R : Words) (map : List ℕ) (n N : ℕ) → Marks R (wordAt map) (N + n + n) → Reached R map map n N 1 0 0 1 1 1
+reached-first R map n N K = record {
   merging = record {
     fronts = record { p-low = omega arith; p-high = omega arith; low = λ b. omega (arith, one b); high = λ b. omega (arith, one b) };
-    going = start R (wordAt map) (N + n + n) root (Done N n 1 1 1) K none;
+    going = start R (wordAt map) (N + n + n) (Done N n 1 1 1) K none;
     kept = record { plain = λ i l k. let e : i ≡ 0 = omega arith in rw e (omega (arith, K .sink)); rises = λ i k a l x y. absurd (omega arith) };
     count = omega arith;
   };
@@ -62,14 +58,13 @@ reached-first R map n N root K = record {
 pub end-limits : (R W : Words) (n N p q r limit : ℕ) → r ≡ q → n < q → Limits R W n N p q r limit
 end-limits R W n N p q r limit e l b i = absurd (omega (arith, same-front q r e b))
 
-module _ (R : Words) (map map₁ : List ℕ) (n N q r c last p root : ℕ) (X : TwiceCut R n N) (settings : n ≤ 63) (nodes : N ≤ 65535) (e : r ≡ q) (l : n < q) where
+module _ (R : Words) (map map₁ : List ℕ) (n N q r c last p : ℕ) (X : TwiceCut R n N) (settings : n ≤ 63) (nodes : N ≤ 65535) (e : r ≡ q) (l : n < q) where
   -- no new record is above the greatest word, so the table is numbered too
   pub finished : (p₀ p₁ : ℕ) (map₀ : List ℕ) → Reached R map map₀ n N p₀ c last p q r → (c₁ last₁ : ℕ) → Passed R map₀ map₁ n N 18446744073709551615 p q r c₁ last₁ p₁
-      → Marked R (wordAt map) (N + n + n) root → root / 2 ≤ N + n + n
-      → Finished R (wordAt map₁) n (N + n + n) c₁ root × Alike (wordAt map) (wordAt map₁) × (c₁ ≤ N + n + n) × (length map₁ ≡ length map)
-  finished p₀ p₁ map₀ A c₁ last₁ P K inside =
+      → AllNumbered R (wordAt map₁) (N + n + n) c₁ × Alike (wordAt map) (wordAt map₁) × (c₁ ≤ N + n + n) × (length map₁ ≡ length map)
+  finished p₀ p₁ map₀ A c₁ last₁ P =
       let t = reached-trans A (P .passing .reached) in
-      (finish R (wordAt map) (wordAt map₁) n (N + n + n) c₁ last₁ root (Done N n p₁ q r) (X .ordered) K (t .alike) (G .going) all (omega (arith, few)) inside, t .alike, few, t .same-length)
+      (all-numbered R (wordAt map₁) (N + n + n) c₁ last₁ (Done N n p₁ q r) (G .going) all, t .alike, few, t .same-length)
     where
       G : Merging R (wordAt map₁) n N c₁ last₁ p₁ q r
       G = P .passing .reached .merging

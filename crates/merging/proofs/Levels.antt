@@ -1,7 +1,6 @@
 -- A level of the cuts is numbered, in the terms of the code. Assumes nothing.
 use Prim.Native.Nat.{ℕ, suc, _+_, _-_, _*_, _/_, _≤_, _<_}
 use mathlib.Core.Path.{_≡_, refl, sym, subst, _∙_}
-use mathlib.Core.Logic.{inl, inr}
 use mathlib.Core.Bool.{Bool, true, false, not, cond, true≢false}
 use mathlib.Core.List.{List}
 use native.Mathlib.Omega.{arith}
@@ -14,8 +13,8 @@ use Rattle.diagram.specs.Format.{Words, highField}
 use Rattle.diagram.proofs.Paths.{side}
 use Rattle.numbering.specs.Renewal.{IsKey}
 use Rattle.cutting.specs.Cut.{TwiceCut}
-use Rattle.merging.specs.Inner.{cutNode, front, Done, in-table, in-cut, Merging, higher, level, Limits, Comes, Passed, Moved}
-use Rattle.merging.proofs.Moves.{sides}
+use Rattle.merging.specs.Inner.{cutNode, front, Done, Merging, higher, level, Limits, Comes, Passed, Moved}
+use Rattle.merging.proofs.Moves.{done-moves}
 use Rattle.merging.proofs.Lists.{cut-inside, cut-level}
 use Rattle.merging.proofs.Merge.{few-records, high}
 use Rattle.merging.proofs.Least.{sides-done}
@@ -27,7 +26,7 @@ same-front q r e true = e
 same-front q r e false = refl
 
 -- either way round, the smaller of two comes first
-pub smaller-first : (a b : ℕ) (swap d : Bool) → swap ≡ ltb b a → cond swap b a ≤ cond d b a
+smaller-first : (a b : ℕ) (swap d : Bool) → swap ≡ ltb b a → cond swap b a ≤ cond d b a
 smaller-first a b true true e = le-refl b
 smaller-first a b true false e = omega (arith, ltb-true b a (sym e))
 smaller-first a b false true e = ltb-false b a (sym e)
@@ -36,14 +35,6 @@ smaller-first a b false false e = le-refl a
 -- a node has one key
 key-unique : (W : Words) (v z w f w′ f′ : ℕ) → IsKey W v z w f → IsKey W v z w′ f′ → w ≡ w′
 key-unique W v z w f w′ f′ K L = elim (tri 0 (W v)) [ less k ↦ K .word-is k ∙ sym (L .word-is k) | same k ↦ K .dead (sym k) ∙ sym (L .dead (sym k)) | more k ↦ absurd (omega arith) ]
-
--- what is done stays done when fronts move
-done-moves : {N n p q r p′ q′ r′ u : ℕ} {b : Bool} → p ≤ p′ → Moved q r q′ r′ b → Done N n p q r u → Done N n p′ q′ r′ u
-done-moves l T (in-table a) = in-table (omega arith)
-done-moves {N = N} {n = n} {q = q} {r = r} {q′ = q′} {r′ = r′} {u = u} {b = b} l T (in-cut d i j) = in-cut d i (elim (sides d b) [
-  | inl e ↦ subst (λ (s : Bool). u < cutNode N n s (front q′ r′ s)) (sym e) (omega (arith, T .here, subst (λ (s : Bool). u < cutNode N n s (front q r s)) e j))
-  | inr e ↦ omega (arith, T .there d e)
-])
 
 -- both fronts moved
 pub moved-both : (q r q₁ r₁ q₂ r₂ : ℕ) (b : Bool) → Moved q r q₁ r₁ b → Moved q₁ r₁ q₂ r₂ (not b) → r ≡ q → (q₂ ≡ q + 1) × (r₂ ≡ q + 1)
@@ -91,7 +82,8 @@ module _ (R : Words) (map map₁ : List ℕ) (n N p q r limit c last p₁ : ℕ)
       (λ d m. omega (arith, same-front q r e d)) (cutNode N n b q) (omega arith) (i .1) (omega (arith, cut-level R n N X b q some l)) s
 
   -- the node of the smaller key comes first
-  module _ (swap : Bool) (va wa fa vb wb fb : ℕ) (va-is : va ≡ cutNode N n false q) (A : IsKey W₁ va (R va) wa fa) (vb-is : vb ≡ cutNode N n true q) (B : IsKey W₁ vb (R vb) wb fb) (swap-is : swap ≡ ltb wb wa) where
+  module _ (swap : Bool) (va wa fa vb wb fb : ℕ) (va-is : va ≡ cutNode N n false q) (A : IsKey W₁ va (R va) wa fa)
+      (vb-is : vb ≡ cutNode N n true q) (B : IsKey W₁ vb (R vb) wb fb) (swap-is : swap ≡ ltb wb wa) where
     key : (d : Bool) → IsKey W₁ (cutNode N n d q) (R (cutNode N n d q)) (cond d wb wa) (cond d fb fa)
     key true = subst (λ (v : ℕ). IsKey W₁ v (R v) wb fb) vb-is B
     key false = subst (λ (v : ℕ). IsKey W₁ v (R v) wa fa) va-is A

@@ -45,5 +45,6 @@ module _ (R : Words) (n N : ℕ) (X : TwiceCut R n N) (b : Bool) where
       go true l m = omega (arith, X .second v (omega arith) m)
       go false l m = omega (arith, X .first v (omega arith) m)
 
+  -- a node by its place in the cut has that height
   pub cut-level : (h : ℕ) → 0 < h → h ≤ n → height R (cutNode N n b h) ≡ h
   cut-level h l m = omega (arith, cut-height (cutNode N n b h) (omega arith) (omega arith))

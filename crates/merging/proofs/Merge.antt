@@ -79,7 +79,10 @@ module _ (R W : Words) (n N c last p q r : ℕ) (X : TwiceCut R n N) (G : Mergin
     side-live b = closed-side R W M (G .going .closed) b i (omega arith) live
 
     pub then-even : image W (thenEdge R (suc i)) % 2 ≡ 0
-    then-even = let a = X .table .then-plain i inside in let b = G .kept .plain (thenEdge R (suc i) / 2) (before true) (side-live true) in omega (arith, image-old (thenEdge R (suc i)) (before true) (side-live true))
+    then-even =
+        let a = X .table .then-plain i inside in
+        let b = G .kept .plain (thenEdge R (suc i) / 2) (before true) (side-live true) in
+        omega (arith, image-old (thenEdge R (suc i)) (before true) (side-live true))
 
     pub edges-differ : image W (thenEdge R (suc i)) ≡ image W (elseEdge R (suc i)) → ⊥
     edges-differ q = elim (tri (thenEdge R (suc i)) (elseEdge R (suc i))) [

@@ -31,7 +31,7 @@ turn-first R map n N limit q r c last p G L = record {
 }
 
 -- a key says whether its node is kept
-pub key-live : (W : Words) (v z word flag : ℕ) → IsKey W v z word flag → 0 < word → (0 < W v) × (word ≡ renew W z)
+key-live : (W : Words) (v z word flag : ℕ) → IsKey W v z word flag → 0 < word → (0 < W v) × (word ≡ renew W z)
 key-live W v z word flag K l = elim (tri 0 (W v)) [ less k ↦ (k, K .word-is k) | same k ↦ absurd (omega (arith, K .dead (sym k))) | more k ↦ absurd (omega arith) ]
 
 -- the new record of a cut's next node is not below a limit

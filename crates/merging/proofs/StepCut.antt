@@ -3,14 +3,15 @@ use Prim.Native.Nat.{ℕ, _+_, _≤_, _<_}
 use mathlib.Core.Path.{_≡_, refl, sym, subst}
 use mathlib.Core.Logic.{_⊎_, inl, inr}
 use mathlib.Core.Bool.{Bool, true, false}
+use native.Mathlib.Nat.{le-refl}
 use native.Mathlib.Omega.{arith}
 use Rattle.words.proofs.Cases.{less, same, more, tri}
 use Rattle.diagram.specs.Format.{Words}
 use Rattle.numbering.proofs.Assign.{Adds}
 use Rattle.numbering.proofs.Given.{Placed, placed-other, placed-count, placed-going}
 use Rattle.cutting.specs.Cut.{TwiceCut}
-use Rattle.merging.specs.Inner.{cutNode, front, Done, in-table, in-cut, Fronts, Kept, Merging, Moved}
-use Rattle.merging.proofs.Moves.{sides}
+use Rattle.merging.specs.Inner.{cutNode, front, Done, in-table, in-cut, Fronts, KeepsOrder, Merging, Moved}
+use Rattle.merging.proofs.Moves.{sides, done-moves}
 use Rattle.merging.proofs.Lists.{cut-inside}
 use Rattle.merging.proofs.Least.{Chosen, ready, least}
 
@@ -39,17 +40,14 @@ module _ (R W W′ : Words) (n N c last p q r c′ last′ q′ r′ : ℕ) (b :
       | in-table a ↦ omega (arith, beyond, F .p-high)
       | in-cut d i j ↦ elim (sides d b) [ inl e ↦ omega (arith, subst (λ (s : Bool). v < cutNode N n s (front q r s)) e j) | inr e ↦ elsewhere d b e l i j ]
     ];
-    old = λ u. elim [
-      | in-table a ↦ in-table a
-      | in-cut d i j ↦ in-cut d i (elim (sides d b) [
-        | inl e ↦ subst (λ (s : Bool). u < cutNode N n s (front q′ r′ s)) (sym e) (omega (arith, T .here, subst (λ (s : Bool). u < cutNode N n s (front q r s)) e j))
-        | inr e ↦ omega (arith, T .there d e)
-      ])
-    ];
+    old = λ u. done-moves (le-refl p) T;
     new = in-cut b (omega (arith, F .low b)) (omega (arith, T .here));
     only = λ u. elim [
       | in-table a ↦ inr (in-table a)
-      | in-cut d i j ↦ elim (sides d b) [ inl e ↦ own u (subst (λ (s : Bool). cutNode N n s 0 < u) e i) (subst (λ (s : Bool). u < cutNode N n s (front q′ r′ s)) e j) | inr e ↦ inr (in-cut d i (omega (arith, T .there d e))) ]
+      | in-cut d i j ↦ elim (sides d b) [
+        | inl e ↦ own u (subst (λ (s : Bool). cutNode N n s 0 < u) e i) (subst (λ (s : Bool). u < cutNode N n s (front q′ r′ s)) e j)
+        | inr e ↦ inr (in-cut d i (omega (arith, T .there d e)))
+      ]
     ];
   }
     where
@@ -66,7 +64,7 @@ module _ (R W W′ : Words) (n N c last p q r c′ last′ q′ r′ : ℕ) (b :
   }
 
   -- the places of the table's nodes stay
-  kept : Placed R W W′ v c last c′ last′ → Kept W′ p
+  kept : Placed R W W′ v c last c′ last′ → KeepsOrder W′ p
   kept P = record {
     plain = λ i m k. rw (o i m) (G .kept .plain i m (rw (o i m) at k));
     rises = λ i k a m x y. rw (o i (omega arith), o k m) (G .kept .rises i k a m (rw (o i (omega arith)) at x) (rw (o k m) at y));

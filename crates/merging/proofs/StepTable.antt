@@ -14,7 +14,7 @@ use Rattle.numbering.proofs.Assign.{Adds}
 use Rattle.numbering.proofs.Going.{Assigned, equal-edges, repeated, another}
 use Rattle.numbering.proofs.Given.{Placed, left-out, placed, placed-count, placed-going}
 use Rattle.cutting.specs.Cut.{TwiceCut}
-use Rattle.merging.specs.Inner.{cutNode, Done, in-table, in-cut, Kept, Merging}
+use Rattle.merging.specs.Inner.{cutNode, Done, in-table, in-cut, KeepsOrder, Merging}
 use Rattle.merging.proofs.Merge.{high, then-even, edges-differ, ordered}
 use Rattle.merging.proofs.Least.{Chosen, ready, least}
 
@@ -84,7 +84,7 @@ module _ (R W W′ : Words) (n N c last v q r c′ last′ : ℕ) (X : TwiceCut 
         go (another a b d f g) = omega (arith, G .going .numbered .small i (omega arith))
 
   -- the places before the next front keep their order
-  kept : Placed R W W′ (suc v) c last c′ last′ → Kept W′ (suc v + 1)
+  kept : Placed R W W′ (suc v) c last c′ last′ → KeepsOrder W′ (suc v + 1)
   kept (left-out z e a b) = rw e (record {
     plain = λ i o k. elim (tri i (suc v)) [ less s ↦ G .kept .plain i s k | same s ↦ absurd (omega (arith, ap W s)) | more s ↦ absurd (omega arith) ];
     rises = λ i k a o x y. elim (tri k (suc v)) [ less s ↦ G .kept .rises i k a s x y | same s ↦ absurd (omega (arith, ap W s)) | more s ↦ absurd (omega arith) ];

@@ -31,7 +31,7 @@ pub record Fronts (N n p q r : ℕ) : Type 0 where
   pub high : (second : Bool) → front q r second ≤ n + 1
 
 -- the places of the table's nodes before p keep their order, and are of plain edges
-pub record Kept (W : Words) (p : ℕ) : Type 0 where
+pub record KeepsOrder (W : Words) (p : ℕ) : Type 0 where
   pub plain : (i : ℕ) → i < p → 0 < W i → W i % 2 ≡ 1
   pub rises : (i k : ℕ) → i < k → k < p → 0 < W i → 0 < W k → W i < W k
 
@@ -39,7 +39,7 @@ pub record Kept (W : Words) (p : ℕ) : Type 0 where
 pub record Merging (R W : Words) (n N c last p q r : ℕ) : Type 0 where
   pub fronts : Fronts N n p q r
   pub going : Going R W (N + n + n) c last (Done N n p q r)
-  pub kept : Kept W p
+  pub kept : KeepsOrder W p
   pub count : c + 3 ≤ p + q + r
 
 -- a limit that the new record of a cut's next node v, of height h, is not below, whatever table nodes that are not above the limit are numbered before it

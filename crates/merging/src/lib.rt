@@ -1,13 +1,12 @@
 // A table with the nodes of two cuts behind it is numbered anew in the order of the new records: level by level, the table's nodes in between the two of the cuts.
 ghost use mathlib.Core.Path.{_≡_};
-ghost use Prim.Native.Nat.{_+_, _*_, _/_, _≤_, _<_};
+ghost use Prim.Native.Nat.{_+_, _*_, _≤_, _<_};
 ghost use lib.ListN.{length};
 ghost use Rattle.words.specs.Words.{wordAt};
 ghost use Rattle.numbering.specs.Renewal.{IsKey};
-ghost use Rattle.numbering.specs.Numbered.{Marked, Alike, Finished, Keyed};
+ghost use Rattle.numbering.specs.Numbered.{Marks, Alike, AllNumbered, Keyed};
 ghost use Rattle.cutting.specs.Cut.{extended, TwiceCut, Room};
 ghost use Rattle.merging.specs.Inner.{cutNode, front, Merging, Limits, Comes, Reached, Passed, Moved};
-use diagram::Edge;
 use diagram::Node;
 use numbering::Key;
 use numbering::Tally;
@@ -174,18 +173,11 @@ fn number_level(
     number_cut(table, more, map, n, nodes, !swap, between)
 }
 
-// Numbers the nodes that are marked, and counts their new records. (The root edge is for the contract.)
-pub fn number(
-    table: &[u8],
-    more: &[u64; 128],
-    map: &mut [u8],
-    n: usize,
-    nodes: usize,
-    root: Edge,
-) -> u64
+// Numbers the nodes that are marked, and counts their new records.
+pub fn number(table: &[u8], more: &[u64; 128], map: &mut [u8], n: usize, nodes: usize) -> u64
     requires { ⌜ Room (now table) (now map) n nodes × TwiceCut (extended (wordAt (now table)) nodes (now more)) n nodes
-        × Marked (extended (wordAt (now table)) nodes (now more)) (wordAt (now map)) (nodes + n + n) (root .value) × (root .value / 2 ≤ nodes + n + n) ⌝ }
-    ensures { λ r. ⌜ Finished (extended (wordAt (now (table .entry))) nodes (now (more .entry))) (wordAt (now (map .exit))) n (nodes + n + n) r (root .value)
+        × Marks (extended (wordAt (now table)) nodes (now more)) (wordAt (now map)) (nodes + n + n) ⌝ }
+    ensures { λ r. ⌜ AllNumbered (extended (wordAt (now (table .entry))) nodes (now (more .entry))) (wordAt (now (map .exit))) (nodes + n + n) r
         × Alike (wordAt (now (map .entry))) (wordAt (now (map .exit))) × (r ≤ nodes + n + n) × (length (now (map .exit)) ≡ length (now (map .entry))) ⌝ }
 {
     let mut at = Progress {

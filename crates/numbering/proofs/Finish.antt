@@ -5,7 +5,7 @@ use mathlib.Core.Logic.{_⊎_, inl, inr}
 use native.Mathlib.Omega.{arith}
 use Rattle.diagram.specs.Format.{Words, thenEdge, elseEdge}
 use Rattle.diagram.specs.Ordered.{Ordered}
-use Rattle.numbering.specs.Numbered.{Numbered, Wanted, Marked, Alike, Going, Finished}
+use Rattle.numbering.specs.Numbered.{Numbered, Wanted, Marks, Marked, Alike, Going, AllNumbered, Finished}
 use Rattle.numbering.proofs.Means.{renumber-under}
 use Rattle.numbering.proofs.Names.{renumber-root, renumber-proper}
 
@@ -45,8 +45,8 @@ pass R W M c last Done Done′ G old only = record {
     done u k d = elim (only (suc u) d) [ inl q ↦ absurd (omega arith) | inr q ↦ q ]
 
 -- nothing is done yet: what is kept is marked by 1
-pub start : (R W : Words) (M root : ℕ) (Done : ℕ → Type 0) → Marked R W M root → ((u : ℕ) → Done (suc u) → ⊥) → Going R W M 0 0 Done
-start R W M root Done K none = record {
+pub start : (R W : Words) (M : ℕ) (Done : ℕ → Type 0) → Marks R W M → ((u : ℕ) → Done (suc u) → ⊥) → Going R W M 0 0 Done
+start R W M Done K none = record {
   list = λ i. 0;
   numbered = record {
     sink = K .sink;
@@ -62,15 +62,22 @@ start R W M root Done K none = record {
   ahead = λ u l k d. omega arith;
 }
 
--- all is done; W₀ are the marks that said what to keep
-pub finish : (R W₀ W : Words) (n M c last root : ℕ) (Done : ℕ → Type 0) → Ordered R n M → Marked R W₀ M root → Alike W₀ W → Going R W M c last Done
-    → ((u : ℕ) → u < M → Done (suc u)) → c < 268435455 → root / 2 ≤ M → Finished R W n M c root
-finish R W₀ W n M c last root Done D K A G all few inside = record {
+-- all is done
+pub all-numbered : (R W : Words) (M c last : ℕ) (Done : ℕ → Type 0) → Going R W M c last Done → ((u : ℕ) → u < M → Done (suc u)) → AllNumbered R W M c
+all-numbered R W M c last Done G all = record {
   list = G .list;
-  proper = renumber-proper R W (G .list) n M c Done D (G .closed) (G .numbered) few all root inside wanted;
-  root-node = renumber-root R W (G .list) n M c Done D (G .closed) (G .numbered) few all root inside wanted;
-  means = λ x. renumber-under R W (G .list) n M c Done D (G .closed) (G .numbered) few all root x inside (A .up (root / 2) (K .top));
   numbered = numbered-as R W (G .list) M c Done (λ v. v ≤ M) (G .numbered) (λ u l d. l) (λ u l k d. all u l);
+  closed = G .closed;
+}
+
+-- W₀ are the marks that said what to keep
+pub finish : (R W₀ W : Words) (n M c root : ℕ) → Ordered R n M → Marked R W₀ M root → Alike W₀ W → AllNumbered R W M c → c < 268435455 → root / 2 ≤ M → Finished R W n M c root
+finish R W₀ W n M c root D K A G few inside = record {
+  list = G .list;
+  proper = renumber-proper R W (G .list) n M c (λ v. v ≤ M) D (G .closed) (G .numbered) few (λ v l. l) root inside wanted;
+  root-node = renumber-root R W (G .list) n M c (λ v. v ≤ M) D (G .closed) (G .numbered) few (λ v l. l) root inside wanted;
+  means = λ x. renumber-under R W (G .list) n M c (λ v. v ≤ M) D (G .closed) (G .numbered) few (λ v l. l) root x inside (A .up (root / 2) (K .top));
+  numbered = G .numbered;
 }
   where
     wanted : Wanted R W M (root / 2)

@@ -9,14 +9,14 @@ use lib.ListN.{length}
 use Rattle.words.specs.Words.{wordAt}
 use Rattle.words.proofs.Cases.{less, same, more, tri}
 use Rattle.words.proofs.Stores.{Updated, put-updated, length-put}
-use Rattle.diagram.specs.Format.{Words, highField, middleField, lowField, height, thenEdge, elseEdge}
+use Rattle.diagram.specs.Format.{Words, middleField, lowField, height, thenEdge, elseEdge}
 use Rattle.diagram.specs.Ordered.{Ordered}
 use Rattle.diagram.specs.Reading.{turn}
 use Rattle.diagram.proofs.Paths.{side}
 use Rattle.numbering.specs.Renewal.{image, renew, IsKey, Given, given-edge, given-last, given-new, Gave, skipped, stored}
 use Rattle.numbering.specs.Numbered.{Alike, Going}
 use Rattle.numbering.proofs.Images.{turn-inj, normal-side, renew-node}
-use Rattle.numbering.proofs.Renumber.{renew-high, side-lt}
+use Rattle.numbering.proofs.Renumber.{renew-positive, side-lt}
 use Rattle.numbering.proofs.Assign.{Adds}
 use Rattle.numbering.proofs.Going.{Assigned, equal-edges, repeated, another, updated-alike, step}
 use Rattle.numbering.proofs.Finish.{pass, alike-same}
@@ -27,7 +27,7 @@ pub data Placed (R W W′ : Words) (v c last c′ last′ : ℕ) : Type 0 where
   placed : (x : ℕ) → 0 < W v → Updated W W′ v x → Assigned (image W (thenEdge R v)) (image W (elseEdge R v)) (renew W (R v)) c last x c′ last′ → Placed R W W′ v c last c′ last′
 
 -- there is one record more, or none
-pub assigned-count : {t e z c last x c′ last′ : ℕ} → Assigned t e z c last x c′ last′ → (c′ ≤ c + 1) × (0 < x)
+assigned-count : {t e z c last x c′ last′ : ℕ} → Assigned t e z c last x c′ last′ → (c′ ≤ c + 1) × (0 < x)
 assigned-count (equal-edges a b d f) = (omega arith, omega arith)
 assigned-count (repeated a b d f g) = (omega arith, omega arith)
 assigned-count (another a b d f g) = (omega arith, omega arith)
@@ -41,6 +41,7 @@ pub placed-other : {R W W′ : Words} {v c last c′ last′ : ℕ} → Placed R
 placed-other (left-out z e a b) u n = ap (λ (w : Words). w u) e
 placed-other (placed x l U A) u n = U .other u n
 
+-- at most one record is new
 pub placed-count : {R W W′ : Words} {v c last c′ last′ : ℕ} → Placed R W W′ v c last c′ last′ → c′ ≤ c + 1
 placed-count (left-out z e a b) = omega arith
 placed-count (placed x l U A) = assigned-count A .0
@@ -81,18 +82,12 @@ module _ (R : Words) (n M c last : ℕ) (Done : ℕ → Type 0) (D : Ordered R n
     given-assigned (given-last a b d g h) = repeated (differ a) (sym w ∙ b) (omega (arith, f)) g (h ∙ w)
     given-assigned (given-new a b d g h) = another (differ a) (λ k. b (w ∙ k)) (omega (arith, f)) (omega arith) (h ∙ w)
 
-    positive : 0 < word
-    positive =
-        let h = renew-high R W (G .list) n M c Done D (G .closed) (G .numbered) (omega arith) v l in
-        let b = D .tall v l in
-        elim (tri 0 word) [ less q ↦ q | same q ↦ absurd (unfold highField in omega (arith, w)) | more q ↦ absurd (omega arith) ]
-
   -- the place that the code gives is the node's
   pub gave-placed : (s s′ : List ℕ) (v word flag c′ last′ : ℕ) → Going R (wordAt s) M c last Done → 0 < v → v ≤ M → 8 * v + 8 ≤ length s
       → IsKey (wordAt s) v (R v) word flag → Gave s s′ v word flag c last c′ last′ → Placed R (wordAt s) (wordAt s′) v c last c′ last′
   gave-placed s s′ zero word flag c′ last′ G p l long K g = absurd (omega arith)
   gave-placed s s′ (suc v) word flag c′ last′ G p l long K (skipped z e a b) = left-out (elim (tri 0 (wordAt s (suc v))) [
-    | less q ↦ absurd (omega (arith, positive (wordAt s) G v word flag 0 c′ last′ l (K .word-is q) (unfold thenEdge in K .flag-is q)))
+    | less q ↦ absurd (omega (arith, K .word-is q, renew-positive R (wordAt s) (G .list) n M c Done D (G .closed) (G .numbered) (omega arith) v l))
     | same q ↦ sym q
     | more q ↦ absurd (omega arith)
   ]) (ap wordAt e) a b

@@ -13,7 +13,7 @@ use Rattle.diagram.proofs.Paths.{side, side-height}
 use Rattle.numbering.specs.Renewal.{image, renew}
 use Rattle.numbering.specs.Numbered.{Numbered, Closed, Alike, Going}
 use Rattle.numbering.proofs.Images.{image-same, renew-node}
-use Rattle.numbering.proofs.Renumber.{renew-high}
+use Rattle.numbering.proofs.Renumber.{renew-high, renew-positive}
 use Rattle.numbering.proofs.Assign.{Adds, assign-dropped, assign-repeated, assign-new}
 
 -- the place x, the count c′ and the last record last′ after a node whose edges become t and e and whose record is z
@@ -30,7 +30,7 @@ updated-alike W W′ v x U l m = record {
 }
 
 -- ... and a closed diagram closed
-pub closed-alike : (R W W′ : Words) (M : ℕ) → Alike W W′ → Closed R W M → Closed R W′ M
+closed-alike : (R W W′ : Words) (M : ℕ) → Alike W W′ → Closed R W M → Closed R W′ M
 closed-alike R W W′ M A C = record {
   closed-then = λ u l k. A .up (thenEdge R (suc u) / 2) (C .closed-then u l (A .down (suc u) k));
   closed-else = λ u l k. A .up (elseEdge R (suc u) / 2) (C .closed-else u l (A .down (suc u) k));
@@ -58,9 +58,6 @@ module _ (R W W′ : Words) (n M c last v x c′ last′ : ℕ) (Done Done′ : 
   -- its record has its height
   high : highField z ≡ height R (suc v)
   high = renew-high R W (G .list) n M c Done D (G .closed) S (omega arith) v inside
-
-  positive : 0 < z
-  positive = let a = high in let b = D .tall v inside in elim (tri 0 z) [ less q ↦ q | same q ↦ absurd (unfold highField in omega arith) | more q ↦ absurd (omega arith) ]
 
   -- what is left has records that are not below the one of v + 1
   module _ (list′ : Words) (c″ last″ : ℕ) (S′ : Numbered R W′ list′ M c″ Done′) (few′ : c″ < 268435455) (some : 0 < x) (latest′ : list′ c″ ≡ last″) (not-above : last″ ≤ z) where
@@ -110,7 +107,7 @@ module _ (R W W′ : Words) (n M c last v x c′ last′ : ℕ) (Done Done′ : 
       (omega arith) (omega arith) (G .latest ∙ sym p) (le-refl z) a b
     where
       nonzero : (i : ℕ) → G .list i ≡ z → 0 < i
-      nonzero zero e = absurd (omega (arith, positive, S .base))
+      nonzero zero e = absurd (omega (arith, renew-positive R W (G .list) n M c Done D (G .closed) S (omega arith) v inside, S .base))
       nonzero (suc i) e = omega arith
   step (another q p y a b) =
       goes (update (G .list) (suc c) z) (suc c) z (rw (renew-node R W v) (assign-new R W W′ (G .list) n M c v x Done Done′ D S inside U A alone q (rw (← (renew-node R W v)) above) y))

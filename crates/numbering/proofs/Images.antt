@@ -9,15 +9,9 @@ use Rattle.diagram.specs.Meaning.{bit, branch, flip, under}
 use Rattle.diagram.specs.Ordered.{Ordered}
 use Rattle.diagram.specs.Reading.{turn}
 use Rattle.diagram.proofs.Paths.{side, plain-step}
-use Rattle.diagram.proofs.Edges.{turn-node, turn-under}
+use Rattle.diagram.proofs.Edges.{turn-node, turn-lt, turn-under}
 use Rattle.diagram.proofs.Fields.{record-high, record-middle, record-low}
 use Rattle.numbering.specs.Renewal.{image, normal, renew}
-
--- a turned edge stays below a limit of edges
-pub turn-lt : (f e m : ℕ) → e < 2 * m → turn f e < 2 * m
-unfolding turn
-turn-lt zero e m l = l
-turn-lt (suc f) e m l = omega arith
 
 -- edges turned alike are equal if they were
 pub turn-inj : (f t e : ℕ) → turn f t ≡ turn f e → t ≡ e

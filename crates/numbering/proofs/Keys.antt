@@ -1,35 +1,32 @@
 -- A node's new record, and what the node is given, in the terms of the code. Assumes nothing.
 use Prim.Native.Nat.{ℕ, zero, suc, _+_, _-_, _*_, _/_, _%_, _≤_, _<_}
 use mathlib.Core.Path.{_≡_, refl, sym, _∙_}
-use mathlib.Core.Bool.{Bool, true, false}
+use mathlib.Core.Bool.{true, false}
 use mathlib.Core.List.{List}
 use native.Mathlib.Omega.{arith}
-use lib.Dec.{eqb}
 use lib.ListN.{length}
 use Rattle.words.specs.Words.{wordAt, putWord}
 use Rattle.diagram.specs.Format.{Words, middleField, lowField, thenEdge, elseEdge}
-use Rattle.diagram.specs.Count.{indicator}
 use Rattle.diagram.specs.Reading.{HasFields, turn, recordOf}
 use Rattle.diagram.proofs.Paths.{side-node}
-use Rattle.diagram.proofs.Edges.{flag-is}
+use Rattle.diagram.proofs.Edges.{turn-lt}
 use Rattle.numbering.specs.Renewal.{image, normal, renew, Renewable, IsKey, given-edge, given-last, given-new, Gave, stored}
 use Rattle.numbering.specs.Numbered.{Keyed}
-use Rattle.numbering.proofs.Images.{turn-lt, image-small}
+use Rattle.numbering.proofs.Images.{image-small}
 
 -- the image of edge e, whose node's place holds m
-pub image-is : (W : Words) (e k m r : ℕ) (f : Bool) → k ≡ e / 2 → m ≡ W k → f ≡ eqb (e % 2) 1 → r ≡ turn (indicator f) (m - 1) → r ≡ image W e
+pub image-is : (W : Words) (e k m r : ℕ) → k ≡ e / 2 → m ≡ W k → r ≡ turn (e % 2) (m - 1) → r ≡ image W e
 unfolding image
-image-is W e k m r f k-is m-is f-is q = q ∙ rw (f-is, flag-is (e % 2) (omega arith), m-is, k-is)
+image-is W e k m r k-is m-is q = q ∙ rw (m-is, k-is)
 
 -- the new record of a diagram's node can be read off
-pub keyed-renewable : (R : Words) (map : List ℕ) (n M : ℕ) → Keyed R (wordAt map) n M → 8 * M + 8 ≤ length map → (v z : ℕ) → 0 < v → v ≤ M → z ≡ R v → z < 18446744073709551616 → Renewable map v z
+pub keyed-renewable : (R : Words) (map : List ℕ) (n M : ℕ) → Keyed R (wordAt map) n M → 8 * M + 8 ≤ length map → (v z : ℕ) → 0 < v → v ≤ M → z ≡ R v → Renewable map v z
 unfolding thenEdge elseEdge
-keyed-renewable R map n M K long zero z p l e f = absurd (omega arith)
-keyed-renewable R map n M K long (suc v) z p l e f =
+keyed-renewable R map n M K long zero z p l e = absurd (omega arith)
+keyed-renewable R map n M K long (suc v) z p l e =
     let a = side-node R n M (K .ordered) true v l in
     let b = side-node R n M (K .ordered) false v l in
     rw e (record {
-      fits = rw (← e) f;
       room = omega arith;
       then-room = omega arith;
       else-room = omega arith;
@@ -40,14 +37,10 @@ keyed-renewable R map n M K long (suc v) z p l e f =
     })
 
 -- the fields h, t and e of record z; a and b are what t and e become, d is b turned by the flag of a
-module _ (map : List ℕ) (v z h t e a b d : ℕ) (f : Bool) (N : Renewable map v z) (F : HasFields z h t e)
-    (a-is : a ≡ image (wordAt map) t) (b-is : b ≡ image (wordAt map) e) (f-is : f ≡ eqb (a % 2) 1) (d-is : d ≡ turn (indicator f) b) where
+module _ (map : List ℕ) (v z h t e a b d : ℕ) (N : Renewable map v z) (F : HasFields z h t e)
+    (a-is : a ≡ image (wordAt map) t) (b-is : b ≡ image (wordAt map) e) (d-is : d ≡ turn (a % 2) b) where
   abbrev W : Words
   W = wordAt map
-
-  -- d as its definition has it
-  turned : d ≡ turn (a % 2) b
-  turned = d-is ∙ rw (f-is, flag-is (a % 2) (omega arith))
 
   a-small : a < 536870912
   a-small = rw (a-is, F .middle-is) (image-small W (middleField z) 268435456 (omega (arith, N .then-small)))
@@ -57,14 +50,14 @@ module _ (map : List ℕ) (v z h t e a b d : ℕ) (f : Bool) (N : Renewable map 
 
   -- the fields fit a word
   pub key-fits : (h ≤ 63) × (2 * (a / 2) < 536870912) × (d < 536870912)
-  key-fits = (F .high-fits, omega (arith, a-small), rw turned (turn-lt (a % 2) b 268435456 b-small))
+  key-fits = (F .high-fits, omega (arith, a-small), rw d-is (turn-lt (a % 2) b 268435456 b-small))
 
   -- the word of these fields is the key
   pub key-is : (word : ℕ) → 0 < W v → word ≡ recordOf h (2 * (a / 2)) d → IsKey W v z word (a % 2)
   unfolding renew normal
   key-is word live q = record {
     dead = λ k. absurd (omega arith);
-    word-is = λ k. q ∙ rw (turned, a-is, b-is, F .high-is, F .middle-is, F .low-is);
+    word-is = λ k. q ∙ rw (d-is, a-is, b-is, F .high-is, F .middle-is, F .low-is);
     flag-is = λ k. rw (a-is, F .middle-is);
     flag-low = omega arith;
   }

@@ -49,7 +49,8 @@ module _ (R W L : Words) (n M c : ℕ) (Done : ℕ → Type 0) (D : Ordered R n 
       go (made i l q y f) =
           let z : W (suc v) - 1 ≡ 2 * suc i + t % 2 = omega arith in
           ap (λ (a : ℕ). under L a x) z
-          ∙ node-turned L n c (renumber-reduced R W L n M c Done D C S few all .ordered) (height R (suc v)) t e i l (made-height R W L n M c Done D C S few i v m f) (made-side R W L n M c Done D C S few i v m f) x
+          ∙ node-turned L n c (renumber-reduced R W L n M c Done D C S few all .ordered) (height R (suc v)) t e i l
+          (made-height R W L n M c Done D C S few i v m f) (made-side R W L n M c Done D C S few i v m f) x
 
   -- an edge means what it meant
   pub renumber-under : (e x : ℕ) → e / 2 ≤ M → 0 < W (e / 2) → under L (image W e) x ≡ under R e x

@@ -28,12 +28,20 @@ module _ (R W L : Words) (n M c : ℕ) (Done : ℕ → Type 0) (D : Ordered R n 
   pub image-lt : (e : ℕ) → e / 2 ≤ M → image W e < 2 * (c + 1)
   image-lt e l = image-small W e (c + 1) (omega (arith, S .small (e / 2) l))
 
+  -- ... and fit a field
   pub side-lt : (b : Bool) (k : ℕ) → k < M → new b k < 536870912
   side-lt b k l = omega (arith, side-node R n M D b k l, image-lt (side R b (suc k)) (omega (arith, side-node R n M D b k l)))
 
   -- a node's new record has the node's height
   pub renew-high : (k : ℕ) → k < M → highField (renew W (R (suc k))) ≡ height R (suc k)
   renew-high k l = ap highField (renew-node R W k) ∙ normal-high (height R (suc k)) (new true k) (new false k) (side-lt true k l) (side-lt false k l)
+
+  -- so it is not 0
+  pub renew-positive : (k : ℕ) → k < M → 0 < renew W (R (suc k))
+  renew-positive k l =
+      let h = renew-high k l in
+      let t = D .tall k l in
+      elim (tri 0 (renew W (R (suc k)))) [ less q ↦ q | same q ↦ absurd (unfold highField in omega arith) | more q ↦ absurd (omega arith) ]
 
   -- a record of the list that node v + 1 makes
   module _ (i v : ℕ) (l : v < M) (e : L (suc i) ≡ normal (height R (suc v)) (new true v) (new false v)) where
@@ -60,8 +68,13 @@ module _ (R W L : Words) (n M c : ℕ) (Done : ℕ → Type 0) (D : Ordered R n 
   unfolding height highField
   lower i zero l m q = absurd (omega arith)
   lower zero (suc j) l m q = omega arith
-  lower (suc i) (suc j) l m q = elim (tri i j) [ less r ↦ omega arith | same r ↦ absurd (omega (arith, ap (λ (k : ℕ). L (suc k) / 2 ^ 58) r)) | more r ↦ absurd (omega (arith, ascending (suc j) (suc i) (omega arith) l)) ]
+  lower (suc i) (suc j) l m q = elim (tri i j) [
+    | less r ↦ omega arith
+    | same r ↦ absurd (omega (arith, ap (λ (k : ℕ). L (suc k) / 2 ^ 58) r))
+    | more r ↦ absurd (omega (arith, ascending (suc j) (suc i) (omega arith) l))
+  ]
 
+  -- an image leads to a record or to the sink
   pub image-inside : (e : ℕ) → e / 2 ≤ M → image W e / 2 ≤ c
   image-inside e l = omega (arith, image-lt e l)
 

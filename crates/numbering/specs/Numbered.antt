@@ -40,11 +40,15 @@ pub record Closed (R W : Words) (M : ℕ) : Type 0 where
 abbrev pub Wanted : Words → Words → ℕ → ℕ → Type 0
 Wanted R W M top = (k : ℕ) → k < M → 0 < W (suc k) → (suc k ≡ top) ⊎ ((j : ℕ) × (j < M) × (0 < W (suc j)) × ((thenEdge R (suc j) / 2 ≡ suc k) ⊎ (elseEdge R (suc j) / 2 ≡ suc k)))
 
--- the nodes that are to be kept are marked by 1: the sink, the root's node, and what they lead to
-pub record Marked (R W : Words) (M root : ℕ) : Type 0 where
+-- the nodes that are to be kept are marked by 1: the sink, and what they lead to
+pub record Marks (R W : Words) (M : ℕ) : Type 0 where
   pub sink : W 0 ≡ 1
   pub bits : (v : ℕ) → v ≤ M → W v ≤ 1
   pub closed : Closed R W M
+
+-- ... they are the root's node and what it leads to
+pub record Marked (R W : Words) (M root : ℕ) : Type 0 where
+  pub marks : Marks R W M
   pub top : 0 < W (root / 2)
   pub wanted : Wanted R W M (root / 2)
 
@@ -62,7 +66,13 @@ pub record Going (R W : Words) (M c last : ℕ) (Done : ℕ → Type 0) : Type 0
   pub below : (u : ℕ) → u < M → 0 < W (suc u) → Done (suc u) → Done (thenEdge R (suc u) / 2) × Done (elseEdge R (suc u) / 2)
   pub ahead : (u : ℕ) → u < M → 0 < W (suc u) → (Done (suc u) → ⊥) → last ≤ renew W (R (suc u))
 
--- everything is numbered: the records, with the root's edge, are a proper diagram that means the same
+-- all kept nodes are numbered, with c records
+pub record AllNumbered (R W : Words) (M c : ℕ) : Type 0 where
+  pub list : Words
+  pub numbered : Numbered R W list M c (λ v. v ≤ M)
+  pub closed : Closed R W M
+
+-- ... and the records, with the root's edge, are a proper diagram that means the same
 pub record Finished (R W : Words) (n M c root : ℕ) : Type 0 where
   pub list : Words
   pub proper : Proper list n c

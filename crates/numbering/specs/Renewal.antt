@@ -21,7 +21,6 @@ renew W z = normal (highField z) (image W (middleField z)) (image W (lowField z)
 
 -- node v is in the map, and where it is kept so are the nodes of its record z: their edges can be read off
 pub record Renewable (map : List ℕ) (v z : ℕ) : Type 0 where
-  pub fits : z < 18446744073709551616
   pub room : 8 * v + 8 ≤ length map
   pub then-room : 8 * (middleField z / 2) + 8 ≤ length map
   pub else-room : 8 * (lowField z / 2) + 8 ≤ length map

@@ -27,7 +27,7 @@ pub fn image_of(map: &[u8], e: Edge) -> Edge
 {
     let place = words::word_at(map, e.node().0);
     let plain = Edge { value: place - 1 };
-    plain.turned(e.flagged())
+    plain.turned_by(e)
 }
 
 // What node v, of record `word`, becomes.
@@ -40,7 +40,7 @@ pub fn key_of(map: &[u8], v: Node, word: u64) -> Key
     }
     let fields = Record::of(word);
     let high = image_of(map, fields.high);
-    let low = image_of(map, fields.low).turned(high.flagged());
+    let low = image_of(map, fields.low).turned_by(high);
     let plain = Edge {
         value: 2 * (high.value / 2),
     };

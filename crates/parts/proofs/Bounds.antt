@@ -1,7 +1,6 @@
 -- The answers of part-write fit the packed form: places up to 65,535, and at most 524,288 bytes, so no value can be taken for a refusal. Assumes nothing.
-use Prim.Native.Nat.{ℕ, _+_, _*_, _≤_}
-use mathlib.Core.Path.{_≡_, refl, sym, ap, _∙_}
-use mathlib.Core.Bool.{Bool}
+use Prim.Native.Nat.{ℕ, _≤_}
+use mathlib.Core.Path.{_≡_, refl}
 use mathlib.Core.List.{List}
 use mathlib.Core.Option.{Option, none, some}
 use native.Mathlib.Omega.{arith}
@@ -11,8 +10,8 @@ use Rattle.words.specs.Words.{wordAt}
 use Rattle.words.proofs.Cases.{passed}
 use Rattle.diagram.specs.Format.{settings}
 use Rattle.diagram.specs.Meaning.{permitted}
-use Rattle.diagram.specs.Answer.{Answer, value, refusal, andThen}
-use Rattle.diagram.proofs.AnswerLaws.{refused-not, value-inj, then-some}
+use Rattle.diagram.specs.Answer.{Answer, value, refusal}
+use Rattle.diagram.proofs.AnswerLaws.{refused-not, then-some}
 use Rattle.diagram.proofs.Refusals.{Refuses, refuses, passes, unless, then-refuses}
 use Rattle.diagram.proofs.Accept.{accepts-accepted}
 use Rattle.checking.specs.Operations.{checkingFor}
@@ -25,11 +24,13 @@ use Rattle.tables.proofs.TableLaws.{tableOf-some}
 use Rattle.parts.specs.Operations.{needed, partOf, partWriting, Promise}
 use Rattle.parts.proofs.Promised.{answer-value, fitted-some}
 
+-- the refusals stay
 length-refuses : (Q : ℕ → ℕ → Type 0) (a : Answer (List ℕ)) → Refuses Q a → Refuses Q (lengthOf a)
 unfolding lengthOf
 length-refuses Q (value bytes) h = passes Q (length bytes)
 length-refuses Q (refusal number place) h = refuses Q number place (h number place refl)
 
+-- the place of every refusal is at most 65,535
 pub part-place : (t : List ℕ) (k j : ℕ) (s : List ℕ) (room : ℕ) → Refuses Low (lengthOf (partWriting t k j s room))
 unfolding partWriting partOf
 part-place t k j s room =
@@ -41,6 +42,7 @@ part-place t k j s room =
     fits none = unfold fitted in refuses Low 16 0 (omega arith)
     fits (some bytes) = unfold fitted in unless Low (ltb room (length bytes)) 11 0 (omega arith) (passes Low bytes)
 
+-- a written part has at most 524,288 bytes
 pub bytes-fit : (t : List ℕ) (k j : ℕ) (s : List ℕ) (room m : ℕ) → lengthOf (partWriting t k j s room) ≡ value m → m ≤ 524288
 unfolding partWriting partOf
 bytes-fit t k j s room m e =

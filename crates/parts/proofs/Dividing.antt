@@ -1,7 +1,7 @@
 -- Demand 3: a list of calls that keep part-write's promise divides the table. Assumes nothing.
 use Prim.Native.Nat.{ℕ, _+_, _^_, _≤_, _<_}
-use mathlib.Core.Path.{_≡_, sym, ap, _∙_, subst}
-use mathlib.Core.Bool.{Bool, true}
+use mathlib.Core.Path.{_≡_, sym, ap, _∙_}
+use mathlib.Core.Bool.{Bool}
 use mathlib.Core.List.{List, List·Memᴰ}
 use mathlib.Core.Option.{some}
 use native.Mathlib.Omega.{arith}
@@ -10,9 +10,8 @@ use Rattle.diagram.specs.Meaning.{permitted}
 use Rattle.diagram.specs.Count.{countBelow, total}
 use Rattle.diagram.specs.Answer.{value}
 use Rattle.diagram.specs.Rules.{Accepts}
-use Rattle.diagram.specs.Ordered.{Accepted}
 use Rattle.diagram.proofs.CountLaws.{count-cong}
-use Rattle.diagram.proofs.Select.{Selected, select-some, select-of, selected-cong, ranked}
+use Rattle.diagram.proofs.Select.{select-some, select-of, selected-cong, ranked}
 use Rattle.diagram.proofs.Accept.{accepts-accepted}
 use Rattle.ranking.specs.Operations.{unrankSetup}
 use Rattle.ranking.proofs.Numbering.{selects-unrank}

@@ -1,5 +1,5 @@
 -- A part after the check: what part-write answers by the part's extent, and its promise. Assumes nothing.
-use Prim.Native.Nat.{ℕ, _+_, _*_, _^_, _≤_}
+use Prim.Native.Nat.{ℕ, _+_, _^_, _≤_}
 use mathlib.Core.Path.{_≡_, refl, sym, ap, _∙_}
 use mathlib.Core.Bool.{Bool, true, false, cond, _||_}
 use mathlib.Core.List.{List}
@@ -10,10 +10,10 @@ use lib.ListN.{length}
 use borrow.Author.Tests.{leb-false}
 use Rattle.words.specs.Words.{wordAt}
 use Rattle.words.proofs.Cases.{passed, or-false}
-use Rattle.diagram.specs.Format.{Words, nodes}
+use Rattle.diagram.specs.Format.{nodes}
 use Rattle.diagram.specs.Meaning.{under}
 use Rattle.diagram.specs.Count.{countBelow}
-use Rattle.diagram.specs.Answer.{Answer, value, refusal, andThen}
+use Rattle.diagram.specs.Answer.{Answer, value, refusal}
 use Rattle.diagram.specs.Reading.{IsHeader}
 use Rattle.diagram.proofs.AnswerLaws.{refused-not, value-inj}
 use Rattle.checking.specs.declared.Checked.{Checked}
@@ -79,7 +79,8 @@ fitted-loosens room (some bytes) = go (ltb room (length bytes))
 
 module _ (table : List ℕ) (k j : ℕ) (sheet out : List ℕ) where
   -- refused, with the sheet as the check leaves it
-  promise-refused : (sheet′ : List ℕ) → sheet′ ≡ sheetAfterFor needed table sheet → (number place : ℕ) → refusal number place ≡ partWriting table k j sheet (length out) → Promise table k j sheet out (refusal number place) sheet′ out
+  promise-refused : (sheet′ : List ℕ) → sheet′ ≡ sheetAfterFor needed table sheet → (number place : ℕ) → refusal number place ≡ partWriting table k j sheet (length out)
+      → Promise table k j sheet out (refusal number place) sheet′ out
   unfolding lengthOf outAfter
   promise-refused sheet′ is number place e = record {
     answers = ap lengthOf e;

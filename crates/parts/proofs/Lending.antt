@@ -1,6 +1,6 @@
 -- A part by its first and its last setup, and the sheet whose free places were lent. Assumes nothing.
-use Prim.Native.Nat.{ℕ, _+_, _-_, _*_, _/_, _^_, _≤_, _<_}
-use mathlib.Core.Path.{_≡_, refl, sym, ap₂, _∙_}
+use Prim.Native.Nat.{ℕ, _+_, _-_, _*_, _^_, _≤_}
+use mathlib.Core.Path.{_≡_, sym, ap₂, _∙_}
 use mathlib.Core.Bool.{Bool, true, false}
 use mathlib.Core.List.{List, _++_}
 use mathlib.Core.Option.{some}
@@ -33,7 +33,8 @@ module _ (n : ℕ) (P : ℕ → Bool) (b z : ℕ) where
     none-written e w = writes-same n (λ _. false) (within P b z) (λ x l. sym (within-none P b z e x)) w
 
     -- or those from the first to the last
-    pub some-written : (lo hi : ℕ) → (z ≡ 0 → ⊥) → select P (2 ^ n) b ≡ some lo → select P (2 ^ n) (b + (z - 1)) ≡ some hi → Writes n (between P lo hi) out answer out′ → Writes n (within P b z) out answer out′
+    pub some-written : (lo hi : ℕ) → (z ≡ 0 → ⊥) → select P (2 ^ n) b ≡ some lo → select P (2 ^ n) (b + (z - 1)) ≡ some hi
+        → Writes n (between P lo hi) out answer out′ → Writes n (within P b z) out answer out′
     unfolding between
     some-written lo hi e p q w =
         let i : b + (z - 1) ≡ b + z - 1 = omega arith in
@@ -44,6 +45,7 @@ module _ (sheet : List ℕ) (begin end : ℕ) (fits : end ≤ length sheet) wher
   lent-long : length (take (end - begin) (drop begin sheet)) ≡ end - begin
   lent-long = length-take-le (end - begin) (drop begin sheet) (omega (arith, length-drop begin sheet))
 
+  -- they are room enough
   pub lent-room : (table : List ℕ) (n N : ℕ) → 8 * (N + n + n) + 8 ≤ end - begin → 8 * N + 8 ≤ length table → n ≤ 63 → N ≤ 65535 → Room table (take (end - begin) (drop begin sheet)) n N
   lent-room table n N room l few m = record { table-long = l; map-long = omega (arith, lent-long); few-settings = few; few-nodes = m }
 

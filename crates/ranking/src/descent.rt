@@ -9,15 +9,10 @@ ghost use Rattle.diagram.specs.Meaning.{under};
 ghost use Rattle.diagram.specs.Count.{countBelow, select};
 ghost use Rattle.diagram.specs.Reading.{Within, cofactor};
 ghost use Rattle.counting.specs.Inner.{Opens};
+use diagram::Cofactors;
 use diagram::Edge;
 use diagram::Rank;
 use diagram::Setup;
-
-// An edge as it goes on where one setting is on (high) or off (low).
-struct Cofactors {
-    high: Edge,
-    low: Edge,
-}
 
 // The cofactors of edge e by the setting of height h.
 fn cofactors_of(table: &[u8], e: Edge, h: u64) -> Cofactors
@@ -29,12 +24,7 @@ fn cofactors_of(table: &[u8], e: Edge, h: u64) -> Cofactors
     if diagram::height_at(table, node) < h {
         return Cofactors { high: e, low: e };
     }
-    let record = diagram::record_at(table, node);
-    let over = e.flagged();
-    Cofactors {
-        high: record.high.turned(over),
-        low: record.low.turned(over),
-    }
+    diagram::record_at(table, node).cofactors(e)
 }
 
 // The setup of n settings that edge root permits with exactly r smaller ones.

@@ -1,6 +1,6 @@
 -- Parts of a table, by computing that given bytes are a table of the part. Assumes nothing.
 use Prim.Native.Nat.{ℕ, _+_, _*_, _/_, _≤_, _<_}
-use mathlib.Core.Path.{_≡_, refl, sym, ap, _∙_}
+use mathlib.Core.Path.{_≡_, sym, ap, _∙_}
 use mathlib.Core.Bool.{true}
 use mathlib.Core.List.{List}
 use mathlib.Core.Option.{some}
@@ -9,9 +9,9 @@ use lib.ListN.{length}
 use borrow.Author.Tests.{lt-ltb, le-ltb, le-leb, lt-leb}
 use Rattle.words.specs.Words.{wordAt, bytesOf}
 use Rattle.words.proofs.Laws.{length-bytesOf}
-use Rattle.words.proofs.Bytes.{Bytes, bytes-bytesOf}
+use Rattle.words.proofs.Bytes.{bytes-bytesOf}
 use Rattle.diagram.specs.Meaning.{permitted}
-use Rattle.diagram.specs.Answer.{Answer, value, refusal}
+use Rattle.diagram.specs.Answer.{value, refusal}
 use Rattle.diagram.specs.Rules.{Accepts}
 use Rattle.division.specs.Span.{inPart}
 use Rattle.tables.specs.Table.{isTable, tableOf}

@@ -1,7 +1,6 @@
 -- A list of part-write calls on table A with k = 2: both parts written, one of them twice, and refusals 10, 11 and 15 in between. Assumes nothing.
-use Prim.Native.Nat.{ℕ, _*_}
+use Prim.Native.Nat.{ℕ}
 use mathlib.Core.List.{List, [], _∷_}
-use lib.ListN.{length}
 use Rattle.words.specs.Words.{bytesOf}
 use Rattle.diagram.specs.Answer.{Answer, value, refusal}
 use Rattle.checking.specs.Operations.{sheetAfterFor}

@@ -1,7 +1,7 @@
 -- The table that the definitions find: there is one exactly if an accepted table permits the set, and then it is that. Assumes nothing.
 use Prim.Native.Nat.{ℕ, _+_, _*_, _/_, _^_, _<_}
 use mathlib.Core.Path.{_≡_, refl, sym, ap, _∙_, subst}
-use mathlib.Core.Bool.{Bool, true, false, true≢false}
+use mathlib.Core.Bool.{Bool, true, true≢false}
 use mathlib.Core.List.{List}
 use mathlib.Core.Option.{Option, none, some, Option·map, bind, bind-eq-some-iff, map-eq-some-iff}
 use native.Mathlib.Omega.{arith}

@@ -1,11 +1,10 @@
 -- Cutting, marking and numbering, put together. Assumes nothing.
-use Prim.Native.Nat.{ℕ, suc, _+_, _/_, _%_, _^_, _≤_, _<_}
+use Prim.Native.Nat.{ℕ, suc, _+_, _/_, _^_, _≤_, _<_}
 use mathlib.Core.Path.{_≡_, refl, sym, ap, _∙_, subst}
-use mathlib.Core.Bool.{Bool, true, false, _&&_}
+use mathlib.Core.Bool.{true, false}
 use mathlib.Core.List.{List}
 use native.Mathlib.Omega.{arith}
 use native.Mathlib.Nat.{add-zero, le-refl, mod-eq-of-lt}
-use lib.Dec.{leb}
 use Rattle.diagram.specs.Format.{Words}
 use Rattle.diagram.specs.Meaning.{under}
 use Rattle.diagram.specs.Ordered.{Ordered, Reduced}
@@ -13,7 +12,8 @@ use Rattle.diagram.proofs.Agree.{agree-under, reduced-agree}
 use Rattle.cutting.specs.Cut.{extended, cutEdge, Cut, TwiceCut}
 use Rattle.cutting.proofs.Extended.{extended-low}
 use Rattle.cutting.proofs.TwoCuts.{once-ordered, once-inside, two-shape, two-inside, two-means}
-use Rattle.numbering.specs.Numbered.{Marked, Alike, Finished}
+use Rattle.numbering.specs.Numbered.{Marked, Alike, AllNumbered}
+use Rattle.numbering.proofs.Finish.{finish}
 use Rattle.writing.specs.Inner.{between, IsBuilt}
 
 -- a table w of N nodes, with a list behind it
@@ -70,19 +70,11 @@ module _ (w : Words) (n N : ℕ) (D : Reduced w n N) (few-settings : n ≤ 63) (
           ∙ rw (← (agree-under w w₀ n N (D .ordered) N (le-refl N) same r x inside), mod-eq-of-lt p, mod-eq-of-lt q, mod-eq-of-lt m)
 
       -- marked by W₀, and numbered by W
-      pub built : lo < 2 ^ n → hi < 2 ^ n → (W₀ W : Words) (c : ℕ) → Marked w₂ W₀ (N + n + n) b → Alike W₀ W → Finished w₂ W n (N + n + n) c b → c ≤ N + n + n → IsBuilt w n N r lo hi w₂ W c b
-      built p q W₀ W c K A F m = record {
+      pub built : lo < 2 ^ n → hi < 2 ^ n → (W₀ W : Words) (c : ℕ) → Marked w₂ W₀ (N + n + n) b → Alike W₀ W → AllNumbered w₂ W (N + n + n) c → c ≤ N + n + n → IsBuilt w n N r lo hi w₂ W c b
+      built p q W₀ W c K A G m = record {
         means = means p q;
-        finished = F;
-        keyed = record {
-          ordered = twice-cut .ordered;
-          closed = record {
-            closed-then = λ k i j. A .up _ (K .closed .closed-then k i (A .down (suc k) j));
-            closed-else = λ k i j. A .up _ (K .closed .closed-else k i (A .down (suc k) j));
-          };
-          small = λ v i. omega (arith, F .numbered .small v i);
-        };
-        few = m;
+        finished = finish w₂ W₀ W n (N + n + n) c b (twice-cut .ordered) K A G (omega arith) second-inside;
+        keyed = record { ordered = twice-cut .ordered; closed = G .closed; small = λ v i. omega (arith, G .numbered .small v i) };
         inside = second-inside;
         top = A .up (b / 2) (K .top);
       }

@@ -12,8 +12,8 @@ use Rattle.diagram.specs.Reading.{recordOf}
 use Rattle.tables.proofs.WritingLaws.{answer-16, answer-11, answer-bytes}
 use Rattle.numbering.specs.Renewal.{image}
 use Rattle.numbering.specs.Numbered.{Finished}
-use Rattle.emitting.specs.Written.{Written}
-use Rattle.emitting.proofs.Numbers.{written-all}
+use Rattle.emitting.specs.Emitting.{HoldsRecords}
+use Rattle.emitting.proofs.Numbers.{records-all}
 use Rattle.writing.specs.Inner.{between, Writes, IsBuilt}
 use Rattle.writing.proofs.Writing.{writes-refused, writes-bytes}
 
@@ -27,16 +27,19 @@ module _ (w : Words) (n N r lo hi : ℕ) (R W : Words) (c e : ℕ) (B : IsBuilt 
   means : (x : ℕ) → x < 2 ^ n → under (F .list) (image W e) x ≡ P x
   means x l = F .means x ∙ B .means x l
 
+  -- rule 16
   pub too-many : 65535 < c → Writes n P out (refusal 16 0) out
   too-many l = writes-refused n P out 16 0 (answer-16 n P (F .list) c (image W e) (F .proper) (F .root-node) means (length out) l)
 
   module _ (few : c ≤ 65535) where
+    -- rule 11
     pub no-room : n ≤ 63 → length out < 8 * (c + 1) → Writes n P out (refusal 11 0) out
     no-room m l = writes-refused n P out 11 0 (answer-11 n P (F .list) c (image W e) (F .proper) (F .root-node) means few m (length out) l)
 
-    pub wrote : (bytes out′ : List ℕ) → Bytes bytes → length bytes ≡ 8 * (c + 1) → 8 * (c + 1) ≤ length out → Written R W (N + n + n) (recordOf n c (image W e)) bytes
+    -- or the table is written
+    pub wrote : (bytes out′ : List ℕ) → Bytes bytes → length bytes ≡ 8 * (c + 1) → 8 * (c + 1) ≤ length out → HoldsRecords R W (N + n + n) (recordOf n c (image W e)) bytes
         → out′ ≡ bytes ++ drop (8 * (c + 1)) out → Writes n P out (value (8 * (c + 1))) out′
     wrote bytes out′ b long l G o =
         writes-bytes n P out bytes (8 * (c + 1)) out′
-        (answer-bytes n P (F .list) c (image W e) (F .proper) (F .root-node) means few bytes b long (G .first) (written-all R W n (N + n + n) c e F (recordOf n c (image W e)) bytes G) (length out) l)
+        (answer-bytes n P (F .list) c (image W e) (F .proper) (F .root-node) means few bytes b long (G .first) (records-all R W n (N + n + n) c e F (recordOf n c (image W e)) bytes G) (length out) l)
         long o

@@ -1,22 +1,23 @@
--- The three outcomes of writing a table, by its records. Assumes nothing.
-use Prim.Native.Nat.{ℕ, suc, _+_, _*_, _/_, _^_, _≤_, _<_}
-use mathlib.Core.Path.{_≡_, refl, sym, ap, _∙_}
-use mathlib.Core.Bool.{Bool, false}
+-- Writing the table of a set: refused or written, and by any other test that agrees. Assumes nothing.
+use Prim.Native.Nat.{ℕ, _^_, _<_}
+use mathlib.Core.Path.{_≡_, refl, sym, _∙_}
+use mathlib.Core.Bool.{Bool}
 use mathlib.Core.List.{List, _++_}
 use mathlib.Core.Option.{Option, none, some}
 use lib.ListN.{length, drop}
 use Rattle.diagram.specs.Answer.{Answer, value, refusal}
 use Rattle.tables.specs.Table.{tableOf}
 use Rattle.tables.specs.Writing.{fitted, lengthOf, outAfter}
-use Rattle.tables.proofs.TableFor.{TableFor}
 use Rattle.tables.proofs.TableLaws.{tableOf-is, tableOf-some}
 use Rattle.writing.specs.Inner.{Writes}
 
 module _ (n : ℕ) (P : ℕ → Bool) (out : List ℕ) where
+  -- refused: the out memory stays
   pub writes-refused : (number place : ℕ) → fitted (length out) (tableOf n P) ≡ refusal number place → Writes n P out (refusal number place) out
   unfolding lengthOf outAfter
   writes-refused number place e = record { answers = rw e; leaves = rw e }
 
+  -- written: the bytes, then what stood there
   pub writes-bytes : (bytes : List ℕ) (m : ℕ) (out′ : List ℕ) → fitted (length out) (tableOf n P) ≡ value bytes → length bytes ≡ m → out′ ≡ bytes ++ drop m out → Writes n P out (value m) out′
   unfolding lengthOf outAfter
   writes-bytes bytes m out′ e l o = record { answers = rw (e, l); leaves = rw (e, l) o }
@@ -35,5 +36,6 @@ same-table n P Q same = go (tableOf n P) refl (tableOf n Q) refl
     go none e none f = e ∙ sym f
     go none e (some t) f = table Q P (λ x l. sym (same x l)) t f ∙ sym f
 
+-- so they are written alike
 pub writes-same : (n : ℕ) (P Q : ℕ → Bool) → ((x : ℕ) → x < 2 ^ n → P x ≡ Q x) → {out out′ : List ℕ} {answer : Answer ℕ} → Writes n P out answer out′ → Writes n Q out answer out′
 writes-same n P Q same w = let e = same-table n P Q same in record { answers = rw (← e) (w .answers); leaves = rw (← e) (w .leaves) }

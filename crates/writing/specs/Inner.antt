@@ -26,6 +26,5 @@ pub record IsBuilt (w : Words) (n N r lo hi : ℕ) (R W : Words) (c e : ℕ) : T
   pub means : (x : ℕ) → x < 2 ^ n → under R e x ≡ between (under w r) lo hi x
   pub finished : Finished R W n (N + n + n) c e
   pub keyed : Keyed R W n (N + n + n)
-  pub few : c ≤ N + n + n
   pub inside : e / 2 ≤ N + n + n
   pub top : 0 < W (e / 2)

@@ -46,7 +46,7 @@ fn build(
     let lower = cutting::add_cut(table, more, n, nodes, 0, root, lo, true);
     let edge = cutting::add_cut(table, more, n, nodes, n, lower, hi, false);
     marking::mark(table, more, map, n, nodes, edge);
-    let records = merging::number(table, more, map, n, nodes, edge);
+    let records = merging::number(table, more, map, n, nodes);
     Built { records, edge }
 }
 

@@ -28,14 +28,12 @@ returns-2 c =
 
 returns-3 : tie.Need-returns-3
 returns-3 c =
-    let a = c .before .before .before in
+    let a = c .before in
     let r = record-of _ _ _ _ _ _ (a .before .before .before .before .if1 .left) (a .before .before .before .word-in .ensures) (a .before .before .of .ensures) in
-    let f = c .before .before .flagged .ensures in
     let s = goes-on _ _ _ _ _ (a .before .before .before .before .before .before .node .ensures) (r .height-is) (a .if2 .left) in
-    (s true _ _ _ (r .then-is) f (c .before .turned .ensures), s false _ _ _ (r .else-is) f (c .turned2 .ensures))
+    (s true _ _ (r .then-is) (c .cofactors .ensures .0), s false _ _ (r .else-is) (c .cofactors .ensures .1))
 
 pub cofactors-in-spec : {M : Type 1} → statement M
 cofactors-in-spec =
     tie.close
-    (tie.spec (λ c κs. search needs) returns (λ c κs. search needs) (λ c κs. search needs) returns-2 (λ c κs. search needs)
-    (λ c κs. search needs) (λ c κs. search needs) returns-3)
+    (tie.spec (λ c κs. search needs) returns (λ c κs. search needs) (λ c κs. search needs) returns-2 (λ c κs. search needs) returns-3)

@@ -1,20 +1,19 @@
--- `emitting::emit` meets its contract. The loop's invariant: the new records of nodes 1 to v are written (`Written`). Assumes nothing.
+-- `emitting::emit` meets its contract. The loop's invariant: the new records of nodes 1 to v are written (`HoldsRecords`). Assumes nothing.
 use Prim.Native.Nat.{_+_, _-_, _≤_}
 use mathlib.Core.Path.{_≡_, refl}
 use native.Mathlib.Omega.{arith}
 use lib.ListN.{length}
-use borrow.Author.Needs.{needs}
 use Rattle.words.specs.Words.{wordAt}
 use Rattle.numbering.proofs.Keys.{keyed-renewable}
 use Rattle.cutting.specs.Cut.{extended}
-use Rattle.emitting.specs.Written.{Written}
-use Rattle.emitting.proofs.Numbers.{written-none, next-room, next-written, written-last}
+use Rattle.emitting.specs.Emitting.{HoldsRecords}
+use Rattle.emitting.proofs.Numbers.{records-none, next-room, next-records, records-last}
 use Rattle.emitting.proofs.emit.Statement.{statement}
 use Rattle.emitting.proofs.emit.Tie as tie
 
 abbrev Inv-loop : tie.InvT-loop
 Inv-loop table more map out₀ n nodes end v₀ out v =
-    (v ≤ nodes + n + n) × (length out ≡ length out₀) × Written (extended (wordAt table) nodes more) (wordAt map) v (wordAt out₀ 0) out
+    (v ≤ nodes + n + n) × (length out ≡ length out₀) × HoldsRecords (extended (wordAt table) nodes more) (wordAt map) v (wordAt out₀ 0) out
 
 abbrev μ-loop : tie.MeasureT-loop
 μ-loop table more map out₀ n nodes end v₀ out v = nodes + n + n - v
@@ -26,7 +25,7 @@ add-end-2 : tie.Need-add-end-2 Inv-loop μ-loop
 add-end-2 c = omega (arith, c .before .before .before .pre .0)
 
 loop-holds : tie.Need-loop-holds Inv-loop μ-loop
-loop-holds c = (omega arith, refl, written-none _ _ _ _ refl)
+loop-holds c = (omega arith, refl, records-none _ _ _ _ refl)
 
 add-v : tie.Need-add-v Inv-loop μ-loop
 add-v c = omega (arith, c .before .before .before .before .before .pre .0)
@@ -40,7 +39,7 @@ emit-one-requires c κs =
     let l = w .before .before in
     let p = l .before .before .before .before .pre in
     let i = l .loop .inv in (
-      keyed-renewable _ _ _ _ (p .1) (p .0 .map-long) _ _ (omega arith) (omega arith) (w .word-in .ensures) (search needs),
+      keyed-renewable _ _ _ _ (p .1) (p .0 .map-long) _ _ (omega arith) (omega arith) (w .word-in .ensures),
       next-room _ _ _ _ _ _ (p .2) (w .before .loop-test .taken) (w .word-in .ensures) (l .loop .out) (i .1),
     )
 
@@ -50,10 +49,10 @@ loop-again c =
     let l = w .before .before in
     let p = l .before .before .before .before .pre in
     let i = l .loop .inv in
-    (omega arith, omega (arith, i .1), next-written _ _ _ _ _ _ (p .2) (w .before .loop-test .taken) (w .word-in .ensures) _ _ _ (i .1) (i .2) (c .before .before .emit-one .ensures))
+    (omega arith, omega (arith, i .1), next-records _ _ _ _ _ _ (p .2) (w .before .loop-test .taken) (w .word-in .ensures) _ _ _ (i .1) (i .2) (c .before .before .emit-one .ensures))
 
 returns : tie.Need-returns Inv-loop μ-loop
-returns c = let i = c .before .loop .inv in written-last _ _ _ _ _ _ (i .0) (c .loop-test .left) (i .2)
+returns c = let i = c .before .loop .inv in records-last _ _ _ _ _ _ (i .0) (c .loop-test .left) (i .2)
 
 pub emit-spec : {M : Type 1} → statement M
 emit-spec =

@@ -1,7 +1,7 @@
 -- `emitting::emit_one` meets its contract. Assumes nothing.
 use native.Mathlib.Omega.{arith}
 use borrow.Author.Needs.{needs}
-use Rattle.emitting.proofs.Emits.{own-is, number-is, emit-quiet, emit-wrote}
+use Rattle.emitting.proofs.Emits.{has-record, number-is, emit-quiet, emit-wrote}
 use Rattle.emitting.proofs.emit_one.Statement.{statement}
 use Rattle.emitting.proofs.emit_one.Tie as tie
 
@@ -13,7 +13,7 @@ returns c =
 sub-t10 : tie.Need-sub-t10
 sub-t10 c =
     let f = c .before .before .before in
-    let o = own-is _ _ _ _ _ _ _ _ (f .before .before .before .before .pre .0) (f .before .key-of .ensures) (f .of .ensures) (c .before .if1 .left) in
+    let o = has-record _ _ _ _ _ _ _ _ (f .before .before .before .before .pre .0) (f .before .key-of .ensures) (f .of .ensures) (c .before .if1 .left) in
     omega (arith, o .live, c .word-at .ensures)
 
 put-word-requires : tie.Need-put-word-requires
@@ -21,7 +21,7 @@ put-word-requires c κs =
     let w = c .before .before in
     let f = w .before .before .before in
     let p = f .before .before .before .before .pre in
-    let o = own-is _ _ _ _ _ _ _ _ (p .0) (f .before .key-of .ensures) (f .of .ensures) (w .before .if1 .left) in
+    let o = has-record _ _ _ _ _ _ _ _ (p .0) (f .before .key-of .ensures) (f .of .ensures) (w .before .if1 .left) in
     omega (arith, p .1 o, number-is _ _ _ _ (w .word-at .ensures) (c .node .ensures))
 
 returns-2 : tie.Need-returns-2

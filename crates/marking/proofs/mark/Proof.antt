@@ -6,7 +6,8 @@ use lib.ListN.{length}
 use borrow.Author.Needs.{needs}
 use Rattle.words.specs.Words.{wordAt}
 use Rattle.cutting.specs.Cut.{extended}
-use Rattle.marking.proofs.Marking.{Marking, room-same, marking-start, marking-down, marking-end}
+use Rattle.cutting.proofs.Extended.{room-same}
+use Rattle.marking.proofs.Marking.{Marking, marking-start, marking-down, marking-end}
 use Rattle.marking.proofs.mark.Statement.{statement}
 use Rattle.marking.proofs.mark.Tie as tie
 
@@ -47,7 +48,7 @@ mark-below-requires c κs =
     let b = l .before .before .before .before .before .before .before .before .before in
     let p = b .before .before .before .pre in
     let i = l .loop .inv in
-    (room-same _ _ _ _ _ (omega (arith, i .1)) (p .0), p .1, c .before .loop-test .taken, i .0)
+    (room-same (p .0) (omega (arith, i .1)), p .1, c .before .loop-test .taken, i .0)
 
 loop-again : tie.Need-loop-again Inv-loop μ-loop
 loop-again c =

@@ -3,7 +3,7 @@ use mathlib.Core.Path.{refl, sym, _∙_}
 use native.Mathlib.Omega.{arith}
 use borrow.Author.Needs.{needs}
 use Rattle.marking.specs.Marks.{left-out}
-use Rattle.marking.proofs.Marking.{names-inside, passed}
+use Rattle.marking.proofs.Marking.{names-inside, marked-below}
 use Rattle.marking.proofs.mark_below.Statement.{statement}
 use Rattle.marking.proofs.mark_below.Tie as tie
 
@@ -21,7 +21,7 @@ returns-2 : tie.Need-returns-2
 returns-2 c =
     let m = c .before .before in
     let a = m .before .before .before .before in
-    passed _ 0 0 _ _ _ _ _ _ _ (a .before .word-in .ensures) (a .of .ensures) (m .before .before .node .ensures) (m .before .node2 .ensures)
+    marked-below _ 0 0 _ _ _ _ _ _ _ (a .before .word-in .ensures) (a .of .ensures) (m .before .before .node .ensures) (m .before .node2 .ensures)
     _ _ _ (a .before .before .before .word-at .ensures) (a .before .before .if1 .left) (m .mark-two .ensures)
 
 pub mark-below-spec : {M : Type 1} → statement M

@@ -11,7 +11,7 @@ use Rattle.merging.proofs.key_in.Tie as tie
 key-of-requires : tie.Need-key-of-requires
 key-of-requires c κs =
     let a = c .before .before .before in
-    keyed-renewable _ _ _ _ (a .pre .1) (a .pre .0 .map-long) _ _ (a .pre .2) (a .pre .3) (c .word-in .ensures) (search needs)
+    keyed-renewable _ _ _ _ (a .pre .1) (a .pre .0 .map-long) _ _ (a .pre .2) (a .pre .3) (c .word-in .ensures)
 
 returns : tie.Need-returns
 returns c =

@@ -4,8 +4,9 @@ use mathlib.Core.Path.{_≡_, refl, _∙_}
 use native.Mathlib.Omega.{arith}
 use Rattle.words.specs.Words.{wordAt}
 use Rattle.cutting.specs.Cut.{extended}
+use Rattle.cutting.proofs.Extended.{room-same}
 use Rattle.merging.specs.Inner.{Reached}
-use Rattle.merging.proofs.Ends.{room-same, reached-trans, reached-first, end-limits, finished}
+use Rattle.merging.proofs.Ends.{reached-trans, reached-first, end-limits, finished}
 use Rattle.merging.proofs.number.Statement.{statement}
 use Rattle.merging.proofs.number.Tie as tie
 
@@ -17,7 +18,7 @@ abbrev μ-loop : tie.MeasureT-loop
 μ-loop table more map₀ n nodes at₀ map at = n + 1 - at .first
 
 loop-holds : tie.Need-loop-holds Inv-loop μ-loop
-loop-holds c = (reached-first _ _ _ _ _ (c .before .before .pre .2), refl)
+loop-holds c = (reached-first _ _ _ _ (c .before .before .pre .2), refl)
 
 number-level-requires : tie.Need-number-level-requires Inv-loop μ-loop
 number-level-requires c κs =
@@ -47,7 +48,7 @@ returns c =
     let p = c .before .before .before .before .before .before .before .before .before .pre in
     let i = c .before .before .before .before .before .before .loop .inv in
     let t = c .before .before .number-table .ensures in
-    finished _ _ _ _ _ _ _ _ _ _ _ (p .1) (p .0 .few-settings) (p .0 .few-nodes) (i .1) (omega (arith, c .before .before .before .before .if1 .left)) _ _ _ (i .0) _ _ (t .0) (p .2) (p .3)
+    finished _ _ _ _ _ _ _ _ _ _ (p .1) (p .0 .few-settings) (p .0 .few-nodes) (i .1) (omega (arith, c .before .before .before .before .if1 .left)) _ _ _ (i .0) _ _ (t .0)
 
 pub number-spec : {M : Type 1} → statement M
 number-spec =

@@ -17,20 +17,35 @@ key-in-requires : tie.Need-key-in-requires
 key-in-requires c κs =
     let a = c .before .before .before .before .before in
     let e = c .before .cut-node .ensures ∙ ap (cutNode (a .args .nodes) (a .args .n) (a .args .second)) (c .before .before .front .ensures) in
-    let i = cut-inside _ _ _ (a .pre .1) (a .args .second) _ (a .pre .3 .inside) in
-    (a .pre .0, merging-keyed _ _ _ _ _ _ _ _ _ (a .pre .1) (a .pre .2) (a .pre .0 .few-settings) (a .pre .0 .few-nodes), omega (arith, e, i .0, a .pre .2 .fronts .low (a .args .second)), omega (arith, e, i .1))
+    let i = cut-inside _ _ _ (a .pre .1) (a .args .second) _ (a .pre .3 .inside) in (
+      a .pre .0,
+      merging-keyed _ _ _ _ _ _ _ _ _ (a .pre .1) (a .pre .2) (a .pre .0 .few-settings) (a .pre .0 .few-nodes),
+      omega (arith, e, i .0, a .pre .2 .fronts .low (a .args .second)),
+      omega (arith, e, i .1),
+    )
 
 number-table-requires : tie.Need-number-table-requires
 number-table-requires c κs =
-    let a = c .before .before .before .before .before .before .before in
-    let e = c .before .before .before .cut-node .ensures ∙ ap (cutNode (a .args .nodes) (a .args .n) (a .args .second)) (c .before .before .before .before .front .ensures) in
-    (a .pre .0, a .pre .1, a .pre .2, cut-limits _ _ _ _ _ _ _ _ _ _ _ _ _ (a .pre .1) (a .pre .2) (a .pre .0 .few-settings) (a .pre .0 .few-nodes) (a .pre .3) e (c .before .key-in .ensures))
+    let cut-node = c .before .before .before in
+    let front1 = cut-node .before in
+    let a = front1 .before .before .before in
+    let e = cut-node .cut-node .ensures ∙ ap (cutNode (a .args .nodes) (a .args .n) (a .args .second)) (front1 .front .ensures) in (
+      a .pre .0,
+      a .pre .1,
+      a .pre .2,
+      cut-limits _ _ _ _ _ _ _ _ _ _ _ _ _ (a .pre .1) (a .pre .2) (a .pre .0 .few-settings) (a .pre .0 .few-nodes) (a .pre .3) e (c .before .key-in .ensures),
+    )
 
 give-requires : tie.Need-give-requires
 give-requires c κs =
-    let a = c .before .before .before .before .before .before .before .before .before .before .before in
-    let e = c .before .before .before .before .before .before .before .cut-node .ensures ∙ ap (cutNode (a .args .nodes) (a .args .n) (a .args .second)) (c .before .before .before .before .before .before .before .before .front .ensures) in
-    give-few _ _ _ _ _ _ _ _ _ _ _ _ _ (a .pre .1) (a .pre .2) (a .pre .0 .few-settings) (a .pre .0 .few-nodes) (a .pre .3) e (c .before .before .before .before .before .key-in .ensures) _ _ _ _ (c .before .before .before .number-table .ensures .0) (a .pre .0 .map-long)
+    let number-table = c .before .before .before in
+    let key-in = number-table .before .before in
+    let cut-node = key-in .before .before in
+    let front1 = cut-node .before in
+    let a = front1 .before .before .before in
+    let e = cut-node .cut-node .ensures ∙ ap (cutNode (a .args .nodes) (a .args .n) (a .args .second)) (front1 .front .ensures) in
+    give-few _ _ _ _ _ _ _ _ _ _ _ _ _ (a .pre .1) (a .pre .2) (a .pre .0 .few-settings) (a .pre .0 .few-nodes) (a .pre .3) e
+    (key-in .key-in .ensures) _ _ _ _ (number-table .number-table .ensures .0) (a .pre .0 .map-long)
 
 moved-requires : tie.Need-moved-requires
 moved-requires c κs =
@@ -41,13 +56,18 @@ moved-requires c κs =
 
 returns : tie.Need-returns
 returns c =
-    let a = c .before .before .before .before .before .before .before .before .before .before .before .before .before .before .before in
-    let e = c .before .before .before .before .before .before .before .before .before .before .before .cut-node .ensures ∙ ap (cutNode (a .args .nodes) (a .args .n) (a .args .second)) (c .before .before .before .before .before .before .before .before .before .before .before .before .front .ensures) in
-    let t = c .before .before .before .before .before .before .before .number-table .ensures in
+    let give = c .before .before .before in
+    let number-table = give .before .before .before .before in
+    let key-in = number-table .before .before in
+    let cut-node = key-in .before .before in
+    let front1 = cut-node .before in
+    let a = front1 .before .before .before in
+    let e = cut-node .cut-node .ensures ∙ ap (cutNode (a .args .nodes) (a .args .n) (a .args .second)) (front1 .front .ensures) in
+    let t = number-table .number-table .ensures in
     let m = c .moved .ensures in
     let T = rw (t .1, t .2) at (m .1) in (
-      rw (m .0, m .2, m .3) (cut-reached _ _ _ _ _ _ _ _ _ _ _ _ _ (a .pre .1) (a .pre .2) (a .pre .0 .few-settings) (a .pre .0 .few-nodes) (a .pre .3) e (c .before .before .before .before .before .before .before .before .before .key-in .ensures) _ _ _ _ (t .0)
-          _ _ _ _ _ (a .pre .0 .map-long) (c .before .before .before .give .ensures) T),
+      rw (m .0, m .2, m .3) (cut-reached _ _ _ _ _ _ _ _ _ _ _ _ _ (a .pre .1) (a .pre .2) (a .pre .0 .few-settings) (a .pre .0 .few-nodes) (a .pre .3) e (key-in .key-in .ensures) _ _ _ _ (t .0)
+          _ _ _ _ _ (a .pre .0 .map-long) (give .give .ensures) T),
       T,
     )
 

@@ -3,7 +3,6 @@ use Prim.Native.Nat.{_+_, _-_, _≤_}
 use mathlib.Core.Path.{_≡_, refl, ap, _∙_}
 use native.Mathlib.Omega.{arith}
 use Rattle.words.specs.Words.{wordAt}
-use Rattle.words.proofs.Laws.{word-fits}
 use Rattle.numbering.proofs.Keys.{keyed-renewable}
 use Rattle.cutting.specs.Cut.{extended}
 use Rattle.cutting.proofs.Extended.{extended-low}
@@ -42,17 +41,21 @@ key-of-requires c κs =
     let i = c .before .before .before .loop in
     let l = c .before .before .loop-test .taken in
     let G = i .inv .0 .reached .merging in
-    let g = c .before .before .before .before .before .before .before .shared-slice-known .given in
     keyed-renewable _ _ _ _ (merging-keyed _ _ _ _ _ _ _ _ _ (a .pre .1) G (a .pre .0 .few-settings) (a .pre .0 .few-nodes))
     (omega (arith, a .pre .0 .map-long, i .inv .0 .reached .same-length)) _ _ (G .fronts .p-low) (omega arith) (extended-low _ _ _ _ _ l (i .inv .1 l))
-    (rw (i .inv .1 l) (word-fits _ _ (λ j. omega (arith, g j))))
 
 returns : tie.Need-returns Inv-loop μ-loop
 returns c =
-    let a = c .before .before .before .before .before .before .before .before .before .before .before in
-    let i = c .before .before .before .before .before .before .loop in
-    let l = c .before .before .before .before .before .loop-test .taken in
-    (turn-last _ _ _ _ _ _ _ _ _ _ _ _ _ _ _ (a .pre .1) (i .inv .0) (a .pre .0 .few-settings) (a .pre .0 .few-nodes) l (extended-low _ _ _ _ _ l (i .inv .1 l)) (c .before .before .key-of .ensures) (c .if1 .taken), refl, refl)
+    let loop-test = c .before .before .before .before .before in
+    let turn = loop-test .before in
+    let a = turn .before .before .before .before .before in
+    let i = turn .loop in
+    let l = loop-test .loop-test .taken in (
+      turn-last _ _ _ _ _ _ _ _ _ _ _ _ _ _ _ (a .pre .1) (i .inv .0) (a .pre .0 .few-settings) (a .pre .0 .few-nodes)
+          l (extended-low _ _ _ _ _ l (i .inv .1 l)) (c .before .before .key-of .ensures) (c .if1 .taken),
+      refl,
+      refl,
+    )
 
 give-requires : tie.Need-give-requires Inv-loop μ-loop
 give-requires c κs =
@@ -65,19 +68,28 @@ give-requires c κs =
     )
 
 add-next : tie.Need-add-next Inv-loop μ-loop
-add-next c = omega (arith, c .before .before .before .before .before .before .before .before .before .loop-test .taken, c .before .before .before .before .before .before .before .before .before .before .before .before .before .before .before .pre .0 .few-nodes)
+add-next c =
+    let loop-test = c .before .before .before .before .before .before .before .before .before in
+    let entry = loop-test .before .before .before .before .before .before in
+    omega (arith, loop-test .loop-test .taken, entry .pre .0 .few-nodes)
 
 loop-less : tie.Need-loop-less Inv-loop μ-loop
 loop-less c = omega (arith, c .before .before .before .before .before .before .before .before .before .loop-test .taken)
 
 loop-again : tie.Need-loop-again Inv-loop μ-loop
 loop-again c =
-    let a = c .before .before .before .before .before .before .before .before .before .before .before .before .before .before .before in
-    let i = c .before .before .before .before .before .before .before .before .before .before .loop in
-    let l = c .before .before .before .before .before .before .before .before .before .loop-test .taken in (
-      turn-next _ _ _ _ _ _ _ _ _ _ _ _ _ _ _ (a .pre .1) (i .inv .0) (a .pre .0 .few-settings) (a .pre .0 .few-nodes) l (extended-low _ _ _ _ _ l (i .inv .1 l)) (c .before .before .before .before .before .before .key-of .ensures)
-          _ _ _ (omega (arith, a .pre .0 .map-long, i .inv .0 .reached .same-length)) (omega (arith, c .before .before .before .before .if1 .left)) (c .before .before .give .ensures),
-      λ m. c .before .before .before .before .before .before .before .before .word-after2 .ensures (omega arith),
+    let if1 = c .before .before .before .before in
+    let key-of = if1 .before .before in
+    let word-after2 = key-of .before .before in
+    let loop-test = word-after2 .before in
+    let turn = loop-test .before in
+    let a = turn .before .before .before .before .before in
+    let i = turn .loop in
+    let l = loop-test .loop-test .taken in (
+      turn-next _ _ _ _ _ _ _ _ _ _ _ _ _ _ _ (a .pre .1) (i .inv .0) (a .pre .0 .few-settings) (a .pre .0 .few-nodes) l
+          (extended-low _ _ _ _ _ l (i .inv .1 l)) (key-of .key-of .ensures)
+          _ _ _ (omega (arith, a .pre .0 .map-long, i .inv .0 .reached .same-length)) (omega (arith, if1 .if1 .left)) (c .before .before .give .ensures),
+      λ m. word-after2 .word-after2 .ensures (omega arith),
     )
 
 returns-2 : tie.Need-returns-2 Inv-loop μ-loop
@@ -87,4 +99,5 @@ pub number-table-spec : {M : Type 1} → statement M
 number-table-spec =
     tie.close
     (tie.spec Inv-loop μ-loop sub-word-after word-after-requires loop-holds word-after-requires-2 key-of-requires
-    (λ c. c .before .before .before .before .before .before .loop .inv .0 .reached .same-length) returns give-requires add-next loop-less loop-again (λ c. c .before .loop .inv .0 .reached .same-length) returns-2)
+    (λ c. c .before .before .before .before .before .before .loop .inv .0 .reached .same-length) returns give-requires add-next loop-less loop-again
+    (λ c. c .before .loop .inv .0 .reached .same-length) returns-2)

@@ -14,15 +14,30 @@ add-put-word-2 : tie.Need-add-put-word-2
 add-put-word-2 c = omega (arith, field-small _ _ _ _ (c .before .before .before .before .of .ensures), c .before .before .before .before .before .before .before .pre .1)
 
 returns-2 : tie.Need-returns-2
-returns-2 c = gave-edge _ _ _ _ _ _ _ _ _ _ (c .before .before .before .before .before .before .before .before .if1 .left) (c .before .before .before .before .before .before .before .of .ensures) (c .before .before .before .before .before .before .before .before .before .before .pre .1) (c .before .before .before .before .before .before .before .before .before .before .pre .2) (c .before .before .before .before .before .if2 .taken) (c .before .before .put-word .ensures)
+returns-2 c =
+    let if2 = c .before .before .before .before .before in
+    let fields = if2 .before .before in
+    let if1 = fields .before in
+    let entry = if1 .before .before in
+    gave-edge _ _ _ _ _ _ _ _ _ _ (if1 .if1 .left) (fields .of .ensures) (entry .pre .1) (entry .pre .2) (if2 .if2 .taken) (c .before .before .put-word .ensures)
 
 returns-3 : tie.Need-returns-3
 returns-3 c =
-    gave-last _ _ _ _ _ _ _ _ _ _ (c .before .before .before .before .before .before .before .before .before .before .if1 .left) (c .before .before .before .before .before .before .before .before .before .of .ensures) (c .before .before .before .before .before .before .before .before .before .before .before .before .pre .1) (c .before .before .before .before .before .before .before .before .before .before .before .before .pre .2) (c .before .before .before .before .before .before .before .if2 .left) (c .before .before .before .before .before .if3 .taken) (c .before .before .put-word2 .ensures)
+    let if3 = c .before .before .before .before .before in
+    let if2 = if3 .before .before in
+    let fields = if2 .before .before in
+    let if1 = fields .before in
+    let entry = if1 .before .before in
+    gave-last _ _ _ _ _ _ _ _ _ _ (if1 .if1 .left) (fields .of .ensures) (entry .pre .1) (entry .pre .2) (if2 .if2 .left) (if3 .if3 .taken) (c .before .before .put-word2 .ensures)
 
 returns-4 : tie.Need-returns-4
 returns-4 c =
-    gave-new _ _ _ _ _ _ _ _ _ _ (c .before .before .before .before .before .before .before .before .before .before .if1 .left) (c .before .before .before .before .before .before .before .before .before .of .ensures) (c .before .before .before .before .before .before .before .before .before .before .before .before .pre .1) (c .before .before .before .before .before .before .before .before .before .before .before .before .pre .2) (c .before .before .before .before .before .before .before .if2 .left) (c .before .before .before .before .before .if3 .left) (c .before .before .put-word3 .ensures)
+    let if3 = c .before .before .before .before .before in
+    let if2 = if3 .before .before in
+    let fields = if2 .before .before in
+    let if1 = fields .before in
+    let entry = if1 .before .before in
+    gave-new _ _ _ _ _ _ _ _ _ _ (if1 .if1 .left) (fields .of .ensures) (entry .pre .1) (entry .pre .2) (if2 .if2 .left) (if3 .if3 .left) (c .before .before .put-word3 .ensures)
 
 pub give-spec : {M : Type 1} → statement M
 give-spec =

@@ -11,9 +11,9 @@ sub-t6 : tie.Need-sub-t6
 sub-t6 c = omega (arith, c .before .before .before .pre .1, c .word-at .ensures, ap (wordAt (c .before .before .before .args .map .now)) (c .before .node .ensures))
 
 returns : tie.Need-returns
-returns c = image-is _ _ _ _ _ _ (c .before .before .before .node .ensures) (c .before .before .word-at .ensures) (c .before .flagged .ensures) (c .turned .ensures)
+returns c = image-is _ _ _ _ _ (c .before .before .node .ensures) (c .before .word-at .ensures) (c .turned-by .ensures)
 
 pub image-of-spec : {M : Type 1} → statement M
 image-of-spec =
     tie.close
-    (tie.spec (λ c κs. search needs) (λ c κs. search needs) sub-t6 (λ c κs. search needs) (λ c κs. search needs) returns)
+    (tie.spec (λ c κs. search needs) (λ c κs. search needs) sub-t6 (λ c κs. search needs) returns)

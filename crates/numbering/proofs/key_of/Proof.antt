@@ -25,15 +25,21 @@ image-of-requires-2 c κs =
     (a .pre .else-room, a .pre .else-live (omega (arith, c .before .before .if1 .left, c .before .before .before .word-at .ensures)))
 
 word-requires : tie.Need-word-requires
-word-requires c κs = key-fits _ _ _ _ _ _ _ _ _ _ (c .before .before .before .before .before .before .before .before .before .pre) (c .before .before .before .before .before .of .ensures) (c .before .before .before .before .image-of .ensures) (c .before .before .before .image-of2 .ensures) (c .before .before .flagged .ensures) (c .before .turned .ensures)
+word-requires c κs =
+    let a = c .before .before in
+    let p = a .before .before .before .before .before .before .pre in
+    key-fits _ _ _ _ _ _ _ _ _ p (a .before .before .of .ensures) (a .before .image-of .ensures) (a .image-of2 .ensures) (c .before .turned-by .ensures)
 
 returns-2 : tie.Need-returns-2
 returns-2 c =
-    key-is _ _ _ _ _ _ _ _ _ _ (c .before .before .before .before .before .before .before .before .before .before .before .pre) (c .before .before .before .before .before .before .before .of .ensures) (c .before .before .before .before .before .before .image-of .ensures) (c .before .before .before .before .before .image-of2 .ensures) (c .before .before .before .before .flagged .ensures) (c .before .before .before .turned .ensures)
-    _ (omega (arith, c .before .before .before .before .before .before .before .before .if1 .left, c .before .before .before .before .before .before .before .before .before .word-at .ensures)) (c .before .word .ensures)
+    let a = c .before .before .before .before in
+    let b = a .before .before .before in
+    let p = b .before .before .before .pre in
+    key-is _ _ _ _ _ _ _ _ _ p (a .before .before .of .ensures) (a .before .image-of .ensures) (a .image-of2 .ensures) (c .before .before .before .turned-by .ensures)
+    _ (omega (arith, b .if1 .left, b .before .word-at .ensures)) (c .before .word .ensures)
 
 pub key-of-spec : {M : Type 1} → statement M
 key-of-spec =
     tie.close
     (tie.spec (λ c κs. search needs) returns (λ c κs. search needs) image-of-requires image-of-requires-2
-    (λ c κs. search needs) (λ c κs. search needs) (λ c. search needs) word-requires returns-2)
+    (λ c κs. search needs) (λ c. search needs) word-requires returns-2)

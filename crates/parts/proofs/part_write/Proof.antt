@@ -19,7 +19,9 @@ header-of-requires : tie.Need-header-of-requires
 header-of-requires c κs = table-long _ some-needed _ _ _ _ (c .before .before .before .before .check-for .ensures) _ (c .enum-told .given .1)
 
 count-under-requires : tie.Need-count-under-requires
-count-under-requires c κs = root-opens _ some-needed _ _ _ _ (c .before .before .before .before .before .before .check-for .ensures) _ (c .before .before .enum-told .given .1) _ _ _ (c .before .header-of .ensures)
+count-under-requires c κs =
+    let check-for = c .before .before .before .before .before .before in
+    root-opens _ some-needed _ _ _ _ (check-for .check-for .ensures) _ (c .before .before .enum-told .given .1) _ _ _ (c .before .header-of .ensures)
 
 write-extent-requires : tie.Need-write-extent-requires
 write-extent-requires c κs =
@@ -39,17 +41,31 @@ write-extent-requires c κs =
 
 returns-2 : tie.Need-returns-2
 returns-2 c =
-    let w = c .before .before .before .before .write-extent in
-    let i = sym (ap spannedAs (c .before .before .before .before .before .before .before .before .spanned .given .1)) ∙ c .before .before .before .before .before .before .before .before .before .before .span-of .ensures in
-    extent-written _ _ _ _ _ _ _ (c .before .before .before .before .before .before .before .before .before .before .before .before .before .before .before .before .before .before .check-for .ensures) _ (c .before .before .before .before .before .before .before .before .before .before .before .before .before .before .enum-told .given .1) _ _ _ (c .before .before .before .before .before .before .before .before .before .before .before .before .before .header-of .ensures) _ (c .before .before .before .before .before .before .before .before .before .before .before .count-under .ensures) _ _ i _ _ _ (w .ensures .0) (w .ensures .1) (w .kept .1 .0)
+    let write-extent = c .before .before .before .before in
+    let spanned = write-extent .before .before .before .before in
+    let span-of = spanned .before .before in
+    let count-under = span-of .before in
+    let header-of = count-under .before .before in
+    let enum-told = header-of .before in
+    let check-for = enum-told .before .before .before .before in
+    let w = write-extent .write-extent in
+    let i = sym (ap spannedAs (spanned .spanned .given .1)) ∙ span-of .span-of .ensures in
+    extent-written _ _ _ _ _ _ _ (check-for .check-for .ensures) _ (enum-told .enum-told .given .1) _ _ _ (header-of .header-of .ensures) _
+    (count-under .count-under .ensures) _ _ i _ _ _ (w .ensures .0) (w .ensures .1) (w .kept .1 .0)
 
 returns-3 : tie.Need-returns-3
 returns-3 c =
-    let i = sym (ap spannedAs (c .before .spanned2 .given .1)) ∙ c .before .before .before .span-of .ensures in
-    index-refused _ _ _ _ _ _ _ (c .before .before .before .before .before .before .before .before .before .before .before .check-for .ensures) _ (c .before .before .before .before .before .before .before .enum-told .given .1) _ _ _ (c .before .before .before .before .before .before .header-of .ensures) _ (c .before .before .before .before .count-under .ensures) _ _ i
+    let span-of = c .before .before .before in
+    let count-under = span-of .before in
+    let header-of = count-under .before .before in
+    let enum-told = header-of .before in
+    let check-for = enum-told .before .before .before .before in
+    let i = sym (ap spannedAs (c .before .spanned2 .given .1)) ∙ span-of .span-of .ensures in
+    index-refused _ _ _ _ _ _ _ (check-for .check-for .ensures) _ (enum-told .enum-told .given .1) _ _ _ (header-of .header-of .ensures) _ (count-under .count-under .ensures) _ _ i
 
 pub part-write-spec : {M : Type 1} → statement M
 part-write-spec =
     tie.close
     (tie.spec (λ c κs. search needs) (λ c. search needs) (λ c. search needs) refusal-of-requires (λ c. search needs) returns header-of-requires
-    count-under-requires (λ c κs. search needs) (λ c. search needs) write-extent-requires (λ c. search needs) (λ c. search needs) (λ c. search needs) returns-2 (λ c. search needs) returns-3)
+    count-under-requires (λ c κs. search needs) (λ c. search needs) write-extent-requires (λ c. search needs) (λ c. search needs)
+    (λ c. search needs) returns-2 (λ c. search needs) returns-3)

@@ -15,7 +15,8 @@ returns c = (none-written _ _ _ _ (c .before .before .before .before .if1 .taken
 add-last : tie.Need-add-last
 add-last c =
     let b = c .before .before .before .before .before .before in
-    record { fits = omega (arith, extent-fits (b .args .n) (under (wordAt (b .args .table .now)) (b .args .root .value)) (b .args .extent .start .0) (b .args .extent .size) (b .pre .0 .few) (b .pre .6), c .before .if1 .left) }
+    let l = extent-fits (b .args .n) (under (wordAt (b .args .table .now)) (b .args .root .value)) (b .args .extent .start .0) (b .args .extent .size) (b .pre .0 .few) (b .pre .6) in
+    record { fits = omega (arith, l, c .before .if1 .left) }
 
 part-write-between-end : tie.Need-part-write-between-end
 part-write-between-end c = search needs
@@ -32,9 +33,13 @@ write-between-requires c κs =
 
 returns-2 : tie.Need-returns-2
 returns-2 c =
-    let b = c .before .before .before .before .before .before .before .before .before .before .before .before .before .before .before .before .before in
-    let w = c .before .before .before .before .write-between in (
-      some-written _ _ _ _ _ _ (c .before .before .before .before .before .before .before .before .before .before .before .before .if1 .left) (c .before .before .before .before .before .before .before .before .before .descend .ensures) (c .before .before .before .before .before .before .before .descend2 .ensures) (w .ensures),
+    let write-between = c .before .before .before .before in
+    let descend2 = write-between .before .before .before in
+    let descend = descend2 .before .before in
+    let if1 = descend .before .before .before in
+    let b = if1 .before .before .before .before .before in
+    let w = write-between .write-between in (
+      some-written _ _ _ _ _ _ (if1 .if1 .left) (descend .descend .ensures) (descend2 .descend2 .ensures) (w .ensures),
       firm-kept _ _ (b .pre .5) (w .last .1 .0) (w .kept .1 .0),
     )
 

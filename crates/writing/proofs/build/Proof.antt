@@ -2,7 +2,7 @@
 use native.Mathlib.Omega.{arith}
 use borrow.Author.Needs.{needs}
 use Rattle.words.specs.Words.{wordAt}
-use Rattle.marking.proofs.Marking.{room-same}
+use Rattle.cutting.proofs.Extended.{room-same}
 use Rattle.writing.proofs.Builds.{none-ordered, first-ordered, first-inside, twice-cut, second-inside, built}
 use Rattle.writing.proofs.build.Statement.{statement}
 use Rattle.writing.proofs.build.Tie as tie
@@ -47,10 +47,9 @@ number-requires c κs =
     let k = c .before .before .before .before .before .before .before .before .before .add-cut .ensures in
     let m = c .before .before .before .before .before .before .before .add-cut2 .ensures in
     let q = c .before .before .before .before .mark .ensures in (
-      room-same _ _ _ _ _ (q .1) r,
+      room-same r (q .1),
       twice-cut _ _ _ (p .1) (r .few-settings) (r .few-nodes) _ (p .2) _ _ _ _ _ _ _ (k .0) (k .1) (m .0) (m .1),
-      q .0,
-      second-inside _ _ _ (p .1) (r .few-settings) (r .few-nodes) _ (p .2) _ _ _ _ _ _ _ (k .0) (k .1) (m .0) (m .1),
+      q .0 .marks,
     )
 
 returns : tie.Need-returns

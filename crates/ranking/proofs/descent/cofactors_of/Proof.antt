@@ -24,13 +24,12 @@ record-at-requires c κs =
 
 returns-2 : tie.Need-returns-2
 returns-2 c =
-    let a = c .before .before .before .before .before .before in
-    let r = c .before .before .before .record-at .ensures in
-    let f = c .before .before .flagged .ensures in
-    let s = goes-on _ _ _ _ _ (a .node .ensures) (c .before .before .before .before .before .height-at .ensures .0) (c .before .before .before .before .if1 .left) in
-    (s true _ _ _ (r .then-is) f (c .before .turned .ensures), s false _ _ _ (r .else-is) f (c .turned2 .ensures))
+    let a = c .before .before .before in
+    let r = c .before .record-at .ensures in
+    let s = goes-on _ _ _ _ _ (a .before .node .ensures) (a .height-at .ensures .0) (c .before .before .if1 .left) in
+    (s true _ _ (r .then-is) (c .cofactors .ensures .0), s false _ _ (r .else-is) (c .cofactors .ensures .1))
 
 pub cofactors-of-spec : {M : Type 1} → statement M
 cofactors-of-spec =
     tie.close
-    (tie.spec (λ c κs. search needs) height-at-requires returns record-at-requires (λ c κs. search needs) (λ c κs. search needs) (λ c κs. search needs) returns-2)
+    (tie.spec (λ c κs. search needs) height-at-requires returns record-at-requires (λ c κs. search needs) returns-2)
