@@ -7,7 +7,6 @@ use mathlib.Core.List.{List}
 use lib.ListN.{length}
 use borrow.Author.Tests.{ne-eqb}
 use Rattle.words.specs.Words.{wordAt}
-use Rattle.words.proofs.Cases.{join-false}
 use Rattle.diagram.specs.Format.{nodes}
 use Rattle.diagram.specs.Answer.{refusal}
 use Rattle.checking.specs.Operations.{sheetAfterFor}
@@ -22,7 +21,7 @@ module _ (t : List ℕ) (k j : ℕ) (s out : List ℕ) (number place : ℕ) (s�
   pub sheet-exact : number ≢ 16 → number ≢ 11 → s′ ≡ sheetAfterFor needed t s
   unfolding loosens firm
   sheet-exact p q =
-      let l : loosens (partWriting t k j s (length out)) ≡ false = ap loosens refused ∙ join-false (ne-eqb number 16 p) (ne-eqb number 11 q) in
+      let l : loosens (partWriting t k j s (length out)) ≡ false = ap loosens refused ∙ simp (ne-eqb number 16 p, ne-eqb number 11 q) in
       subst (λ (b : Bool). firm b (nodes (wordAt t)) s′ ≡ firm b (nodes (wordAt t)) (sheetAfterFor needed t s)) l (kept .leaves)
 
   pub out-exact : out′ ≡ out

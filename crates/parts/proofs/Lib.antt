@@ -1,7 +1,7 @@
 -- The laws of written parts.
 pub mod Promised
 pub mod Dividing
-pub mod Exact
 pub mod Extents
 pub mod Lending
 pub mod Bounds
+pub mod Exact
