@@ -47,7 +47,7 @@ pub data Beyond (R W : Words) (N n p q r h v limit : ℕ) : Type 0 where
   higher : highField limit < h → Beyond R W N n p q r h v limit
   level : highField limit ≤ h → Done N n p q r (thenEdge R v / 2) → Done N n p q r (elseEdge R v / 2) → (0 < W v → limit ≤ renew W (R v)) → Beyond R W N n p q r h v limit
 
--- the next node of either cut is
+-- the next node of either cut is beyond the limit
 abbrev pub Limits : Words → Words → ℕ → ℕ → ℕ → ℕ → ℕ → ℕ → Type 0
 Limits R W n N p q r limit = (second : Bool) → front q r second ≤ n → Beyond R W N n p q r (front q r second) (cutNode N n second (front q r second)) limit
 

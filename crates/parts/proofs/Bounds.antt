@@ -21,7 +21,7 @@ use Rattle.division.specs.Operations.{noPart}
 use Rattle.tables.specs.Table.{tableOf}
 use Rattle.tables.specs.Writing.{fitted, lengthOf}
 use Rattle.tables.proofs.TableLaws.{tableOf-some}
-use Rattle.parts.specs.Operations.{needed, partOf, partWriting, Promise}
+use Rattle.parts.specs.Operations.{needed, partOf, partWriting}
 use Rattle.parts.proofs.Promised.{answer-value, fitted-some}
 
 -- the refusals stay
@@ -54,7 +54,3 @@ bytes-fit t k j s room m e =
     let T = tableOf-some n P (a .0) (fitted-some room (tableOf n P) (a .0) (c .1)) in
     let A = accepts-accepted (a .0) n (T .0) (T .2 .accepts) in
     omega (arith, a .2, A .long, A .few)
-
--- the promise, with the answer as it is defined
-pub as-defined : {t : List ℕ} {k j : ℕ} {s out : List ℕ} {a : Answer ℕ} {s′ out′ : List ℕ} → Promise t k j s out a s′ out′ → Promise t k j s out (lengthOf (partWriting t k j s (length out))) s′ out′
-as-defined p = record { answers = refl; writes = p .writes; leaves = p .leaves; same-length = p .same-length }

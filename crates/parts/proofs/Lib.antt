@@ -2,6 +2,7 @@
 pub mod Promised
 pub mod Dividing
 pub mod Extents
+pub mod Ends
 pub mod Lending
 pub mod Bounds
 pub mod Exact

@@ -22,9 +22,13 @@ use Rattle.division.proofs.Sharing.{none-index}
 use Rattle.tables.specs.Table.{tableOf}
 use Rattle.tables.specs.Writing.{fitted, lengthOf, outAfter, frontOf}
 use Rattle.tables.proofs.WritingLaws.{front-written}
-use Rattle.parts.specs.Operations.{needed, partOf, partWriting}
+use Rattle.parts.specs.Operations.{needed, partOf, partWriting, Promise}
 use Rattle.parts.specs.Calls.{Call, Kept}
 use Rattle.parts.specs.Division.{due}
+
+-- the promise, with the answer as it is defined
+pub as-defined : {t : List ℕ} {k j : ℕ} {s out : List ℕ} {a : Answer ℕ} {s′ out′ : List ℕ} → Promise t k j s out a s′ out′ → Promise t k j s out (lengthOf (partWriting t k j s (length out))) s′ out′
+as-defined p = record { answers = refl; writes = p .writes; leaves = p .leaves; same-length = p .same-length }
 
 -- an answer in bytes, taken apart
 pub answer-value : (a : Answer (List ℕ)) (m : ℕ) → lengthOf a ≡ value m → (bytes : List ℕ) × (a ≡ value bytes) × (length bytes ≡ m)

@@ -28,7 +28,9 @@ due table n N k c =
 
 -- bytes that are part j of k, of an accepted table of n settings
 pub record Right (table : List ℕ) (n k j : ℕ) (bytes : List ℕ) : Type 0 where
+  -- there is such a part
   pub index-fits : j < k
+  -- N'
   pub nodes : ℕ
   -- an accepted table, with the same n
   pub accepted : Accepts bytes n nodes

@@ -20,6 +20,7 @@ call j m b came = record {
   out-after = outAfter came (bytesOf b 0);
 }
 
+-- part 1, part 0, three refusals, and part 0 again
 unfoldable pub calls : List Call
 calls =
     call 1 524 40 (value A₁) ∷ call 0 524 48 (value A₀) ∷ call 1 524 39 (refusal 11 0) ∷ call 2 524 48 (refusal 15 0) ∷ call 0 523 48 (refusal 10 0) ∷ call 0 524 32 (value A₀) ∷ []

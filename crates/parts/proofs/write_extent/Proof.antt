@@ -5,7 +5,8 @@ use borrow.Author.Needs.{needs}
 use Rattle.words.specs.Words.{wordAt}
 use Rattle.diagram.specs.Meaning.{under}
 use Rattle.diagram.proofs.Select.{select-some}
-use Rattle.parts.proofs.Lending.{extent-fits, none-written, some-written, lent-room, firm-kept}
+use Rattle.parts.proofs.Ends.{extent-fits, none-written, some-written}
+use Rattle.parts.proofs.Lending.{lent-room, firm-kept}
 use Rattle.parts.proofs.write_extent.Statement.{statement}
 use Rattle.parts.proofs.write_extent.Tie as tie
 
