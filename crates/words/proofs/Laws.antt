@@ -1,32 +1,15 @@
--- Laws of words in bytes: what the code's loads and stores are, and what is read where words were written. Assumes nothing.
+-- Laws of words in bytes: what is read where words were written. Assumes nothing.
 use Prim.Native.Nat.{ℕ, zero, suc, _+_, _-_, _*_, _/_, _%_, _^_, _≤_, _<_}
 use mathlib.Core.Path.{_≡_, refl, sym, ap, ap₂, _∙_, subst}
 use mathlib.Core.List.{List, _++_, append-assoc}
 use native.Mathlib.Omega.{arith}
-use native.Mathlib.Nat.{div-div-eq-div-mul, pow-suc, mod-eq-of-lt, mod-one, div-one, one-le-pow, add-zero}
-use native.Mathlib.Numerals.{towards-suc}
+use native.Mathlib.Nat.{div-div-eq-div-mul, pow-suc, mod-eq-of-lt, mod-one, div-one, one-le-pow}
 use lib.Dec.{lit<}
 use lib.Arith.{mod-mul}
-use lib.ListN.{length, getD, set, drop, length-append, length-drop, List·getD-append}
-use lib.Seq.{getD-append-add, take-at, drop-at, drop-drop, drop-append-add, sets-eq}
+use lib.ListN.{length, getD, drop, length-append, length-drop, List·getD-append}
+use lib.Seq.{getD-append-add, take-at, drop-at, drop-drop, drop-append-add}
 use Rattle.words.specs.Words.{beAt, wordAt, bytesOf, putWord, wordsBytes, wordsOver}
 use Rattle.words.proofs.Cases.{less, same, more, tri}
-
--- eight bytes in two halves, as the code reads them
-pub word-halves : (l : List ℕ) (k : ℕ)
-    → (getD l (8 * k) 0 * 16777216 + getD l (8 * k + 1) 0 * 65536 + getD l (8 * k + 2) 0 * 256 + getD l (8 * k + 3) 0) * 4294967296
-    + (getD l (8 * k + 4) 0 * 16777216 + getD l (8 * k + 5) 0 * 65536 + getD l (8 * k + 6) 0 * 256 + getD l (8 * k + 7) 0)
-    ≡ wordAt l k
-unfolding wordAt beAt
-word-halves l k = simp add-zero (omega arith)
-
--- eight stores, as the code makes them
-pub put-stores : (l : List ℕ) (k v : ℕ) → 8 * k + 8 ≤ length l
-    → set (set (set (set (set (set (set (set l (8 * k) (v / 72057594037927936 % 256)) (8 * k + 1) (v / 281474976710656 % 256)) (8 * k + 2) (v / 1099511627776 % 256)) (8 * k + 3) (v / 4294967296 % 256))
-    (8 * k + 4) (v / 16777216 % 256)) (8 * k + 5) (v / 65536 % 256)) (8 * k + 6) (v / 256 % 256)) (8 * k + 7) (v % 256)
-    ≡ putWord l k v
-unfolding putWord bytesOf
-put-stores l k v h = simp (towards-suc, div-one) (simp (towards-suc, div-one) at (sets-eq (bytesOf 8 v) l (8 * k) h))
 
 -- a word of bytes fits 64 bits
 pub be-fits : (l : List ℕ) → ((i : ℕ) → getD l i 0 < 256) → (at m : ℕ) → beAt l at m < 256 ^ m

@@ -1,2 +1,3 @@
 -- Words of 64 bits in bytes.
 pub mod Words
+pub mod Swap

@@ -1,24 +1,32 @@
 // Words of 64 bits in a slice of bytes, most significant byte first: a read is one load and a byte swap, and so is a store.
+// The load and the store have functions of their own, least significant byte first: the compiler makes one access of each.
 ghost use mathlib.Core.Path.{_≡_};
 ghost use Prim.Native.Nat.{_+_, _*_, _≤_};
 ghost use lib.ListN.{length};
 ghost use Rattle.words.specs.Words.{wordAt, putWord};
+ghost use Rattle.words.specs.Swap.{swap};
 
-// The word of eight bytes. (In two halves: the compiler makes one load of them.)
-fn word_of(a: u8, b: u8, c: u8, d: u8, e: u8, f: u8, g: u8, h: u8) -> u64
-    ensures { λ r. ⌜ r ≡ (a * 16777216 + b * 65536 + c * 256 + d) * 4294967296 + (e * 16777216 + f * 65536 + g * 256 + h) ⌝ }
+// The number of eight bytes, least significant first.
+fn little_of(a: u8, b: u8, c: u8, d: u8, e: u8, f: u8, g: u8, h: u8) -> u64
+    ensures { λ r. ⌜ r ≡ a + b * 256 + c * 65536 + d * 16777216 + e * 4294967296 + f * 1099511627776 + g * 281474976710656 + h * 72057594037927936 ⌝ }
 {
-    ((a as u64) * 16777216 + (b as u64) * 65536 + (c as u64) * 256 + (d as u64)) * 4294967296
-        + ((e as u64) * 16777216 + (f as u64) * 65536 + (g as u64) * 256 + (h as u64))
+    (a as u64)
+        + (b as u64) * 256
+        + (c as u64) * 65536
+        + (d as u64) * 16777216
+        + (e as u64) * 4294967296
+        + (f as u64) * 1099511627776
+        + (g as u64) * 281474976710656
+        + (h as u64) * 72057594037927936
 }
 
-// Word k.
-pub fn word_at(bytes: &[u8], k: usize) -> u64
+// The eight bytes of word k, least significant first.
+fn load(bytes: &[u8], k: usize) -> u64
     requires { ⌜ 8 * k + 8 ≤ length (now bytes) ⌝ }
-    ensures { λ r. ⌜ r ≡ wordAt (now (bytes .entry)) k ⌝ }
+    ensures { λ r. ⌜ swap r ≡ wordAt (now (bytes .entry)) k ⌝ }
 {
     let i = 8 * k;
-    word_of(
+    little_of(
         bytes[i],
         bytes[i + 1],
         bytes[i + 2],
@@ -30,18 +38,48 @@ pub fn word_at(bytes: &[u8], k: usize) -> u64
     )
 }
 
+// Stores v as word k, least significant byte first.
+fn store(bytes: &mut [u8], k: usize, v: u64)
+    requires { ⌜ 8 * k + 8 ≤ length (now bytes) ⌝ }
+    ensures { λ _. ⌜ now (bytes .exit) ≡ putWord (now (bytes .entry)) k (swap v) ⌝ }
+{
+    let i = 8 * k;
+    bytes[i] = (v % 256) as u8;
+    bytes[i + 1] = (v / 256 % 256) as u8;
+    bytes[i + 2] = (v / 65536 % 256) as u8;
+    bytes[i + 3] = (v / 16777216 % 256) as u8;
+    bytes[i + 4] = (v / 4294967296 % 256) as u8;
+    bytes[i + 5] = (v / 1099511627776 % 256) as u8;
+    bytes[i + 6] = (v / 281474976710656 % 256) as u8;
+    bytes[i + 7] = (v / 72057594037927936 % 256) as u8;
+}
+
+// The bytes of v in the opposite order.
+fn swapped(v: u64) -> u64
+    ensures { λ r. ⌜ r ≡ swap v ⌝ }
+{
+    v % 256 * 72057594037927936
+        + v / 256 % 256 * 281474976710656
+        + v / 65536 % 256 * 1099511627776
+        + v / 16777216 % 256 * 4294967296
+        + v / 4294967296 % 256 * 16777216
+        + v / 1099511627776 % 256 * 65536
+        + v / 281474976710656 % 256 * 256
+        + v / 72057594037927936 % 256
+}
+
+// Word k.
+pub fn word_at(bytes: &[u8], k: usize) -> u64
+    requires { ⌜ 8 * k + 8 ≤ length (now bytes) ⌝ }
+    ensures { λ r. ⌜ r ≡ wordAt (now (bytes .entry)) k ⌝ }
+{
+    swapped(load(bytes, k))
+}
+
 // Stores v as word k.
 pub fn put_word(bytes: &mut [u8], k: usize, v: u64)
     requires { ⌜ 8 * k + 8 ≤ length (now bytes) ⌝ }
     ensures { λ _. ⌜ now (bytes .exit) ≡ putWord (now (bytes .entry)) k v ⌝ }
 {
-    let i = 8 * k;
-    bytes[i] = (v / 72057594037927936 % 256) as u8;
-    bytes[i + 1] = (v / 281474976710656 % 256) as u8;
-    bytes[i + 2] = (v / 1099511627776 % 256) as u8;
-    bytes[i + 3] = (v / 4294967296 % 256) as u8;
-    bytes[i + 4] = (v / 16777216 % 256) as u8;
-    bytes[i + 5] = (v / 65536 % 256) as u8;
-    bytes[i + 6] = (v / 256 % 256) as u8;
-    bytes[i + 7] = (v % 256) as u8;
+    store(bytes, k, swapped(v));
 }
