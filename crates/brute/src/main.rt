@@ -4,7 +4,8 @@ use checking::Counted;
 use checking::Tested;
 use diagram::Rank;
 use diagram::Setup;
-use libc::STDOUT_FILENO;
+use programs::say;
+use programs::say_number;
 use ranking::Ranked;
 use ranking::Unranked;
 
@@ -337,14 +338,6 @@ fn total_differs(counted: Counted, permitted: u64) -> u64
     1
 }
 
-fn say(text: &[u8]) {
-    io::write_all(STDOUT_FILENO, text);
-}
-
-fn say_number(n: u64) {
-    io::print_decimal(STDOUT_FILENO, n);
-}
-
 // A table's line: what the reader permits, and in how many points the library differs.
 fn compare(name: &[u8], table: &[u8]) {
     let root = lower(word(table, 0));
@@ -358,14 +351,10 @@ fn compare(name: &[u8], table: &[u8]) {
         + ranks_differ(table, root, setups)
         + places_differ(table, &sheet, places);
     say(name);
-    say(b": ");
-    say_number(permitted);
-    say(b" permitted, ");
-    say_number(setups);
-    say(b" setups, their ranks and ");
-    say_number(places as u64);
-    say(b" places compared, ");
-    say_number(differences);
+    say_number(b": ", permitted);
+    say_number(b" permitted, ", setups);
+    say_number(b" setups, their ranks and ", places as u64);
+    say_number(b" places compared, ", differences);
     say(b" differences\n");
 }
 

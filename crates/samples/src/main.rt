@@ -7,9 +7,11 @@ use diagram::Rank;
 use diagram::Setup;
 use division::Spanned;
 use libc::STDOUT_FILENO;
+use programs::say;
+use programs::say_number;
+use programs::say_refusal;
 use ranking::Ranked;
 use ranking::Unranked;
-use rules::Refusal;
 use writing::Written;
 
 // Table A.
@@ -20,28 +22,12 @@ const A: [u64; 4] = [
     0x0C00000080000000,
 ];
 
-fn say(text: &[u8]) {
-    io::write_all(STDOUT_FILENO, text);
-}
-
-fn say_number(n: u64) {
-    say(b" ");
-    io::print_decimal(STDOUT_FILENO, n);
-}
-
-fn say_refusal(r: Refusal) {
-    say(b" refused");
-    say_number(rules::number_of(r));
-    say(b" at");
-    say_number(rules::place_of(r) as u64);
-}
-
 // Places 0 to N of the sheet, which has four.
 fn say_places(sheet: &[u8; 32], nodes: usize) {
     say(b" places");
     for k in 0..4 {
         if k <= nodes {
-            say_number(words::word_at(sheet, k));
+            say_number(b" ", words::word_at(sheet, k));
         }
     }
 }
@@ -53,10 +39,10 @@ fn say_permitted(table: &[u8], x: u64) {
     match tested {
         Tested::Permitted(yes) => {
             if yes {
-                say_number(x);
+                say_number(b" ", x);
             }
         }
-        Tested::Refused(r) => say_refusal(r),
+        Tested::Refused(r) => say_refusal(b" ", r),
     }
 }
 
@@ -78,15 +64,14 @@ fn say_table(table: &[u8], shape: Shape) {
     let counted = checking::count(table, &mut sheet);
     match counted {
         Counted::Total(c) => {
-            say(b" count");
-            say_number(c);
+            say_number(b" count ", c);
             say_places(&sheet, shape.nodes);
             say_setups(table, shape.settings);
             if c == 0 {
                 say(b" none");
             }
         }
-        Counted::Refused(r) => say_refusal(r),
+        Counted::Refused(r) => say_refusal(b" ", r),
     }
 }
 
@@ -98,13 +83,11 @@ fn sample(name: &[u8], table: &[u8]) {
     let checked = checking::check(table, &mut sheet);
     match checked {
         Checked::Table(shape) => {
-            say(b" vars");
-            say_number(shape.settings);
-            say(b" nodes");
-            say_number(shape.nodes as u64);
+            say_number(b" vars ", shape.settings);
+            say_number(b" nodes ", shape.nodes as u64);
             say_table(table, shape);
         }
-        Checked::Refused(r) => say_refusal(r),
+        Checked::Refused(r) => say_refusal(b" ", r),
     }
     say(b"\n");
 }
@@ -199,23 +182,22 @@ fn sheet_too_short() {
     let mut sheet = [0u8; 31];
     let counted = checking::count(&a, &mut sheet);
     match counted {
-        Counted::Total(c) => say_number(c),
-        Counted::Refused(r) => say_refusal(r),
+        Counted::Total(c) => say_number(b" ", c),
+        Counted::Refused(r) => say_refusal(b" ", r),
     }
     say(b"\n");
 }
 
 // The rank of a setup in A.
 fn rank_of(x: u64) {
-    say(b"A, rank of");
-    say_number(x);
+    say_number(b"A, rank of ", x);
     say(b":");
     let a = bytes_of(&A);
     let mut sheet = [0u8; 32];
     let ranked = ranking::rank(&a, Setup(x), &mut sheet);
     match ranked {
-        Ranked::At(r) => say_number(r.0),
-        Ranked::Refused(r) => say_refusal(r),
+        Ranked::At(r) => say_number(b" ", r.0),
+        Ranked::Refused(r) => say_refusal(b" ", r),
     }
     say(b"\n");
 }
@@ -223,14 +205,13 @@ fn rank_of(x: u64) {
 // The setup of a number, in a table of four words at most.
 fn setup_of(name: &[u8], table: &[u8], r: u64) {
     say(name);
-    say(b", number");
-    say_number(r);
+    say_number(b", number ", r);
     say(b":");
     let mut sheet = [0u8; 32];
     let unranked = ranking::unrank(table, Rank(r), &mut sheet);
     match unranked {
-        Unranked::To(x) => say_number(x.0),
-        Unranked::Refused(r) => say_refusal(r),
+        Unranked::To(x) => say_number(b" ", x.0),
+        Unranked::Refused(r) => say_refusal(b" ", r),
     }
     say(b"\n");
 }
@@ -241,15 +222,14 @@ fn say_size(k: u64, j: u64) {
     let mut sheet = [0u8; 32];
     let spanned = division::span(&a, k, j, &mut sheet);
     match spanned {
-        Spanned::Part(p) => say_number(p.size),
-        Spanned::Refused(r) => say_refusal(r),
+        Spanned::Part(p) => say_number(b" ", p.size),
+        Spanned::Refused(r) => say_refusal(b" ", r),
     }
 }
 
 // The sizes of the first `shown` parts of k of A.
 fn sizes(k: u64, shown: u64) {
-    say(b"A, k =");
-    say_number(k);
+    say_number(b"A, k = ", k);
     say(b", sizes:");
     for j in 0..shown {
         say_size(k, j);
@@ -274,10 +254,8 @@ fn say_words(bytes: &[u8]) {
 
 // Part j of k of A: written, handed out and shown.
 fn part_of(k: u64, j: u64) {
-    say(b"A, k =");
-    say_number(k);
-    say(b", part");
-    say_number(j);
+    say_number(b"A, k = ", k);
+    say_number(b", part ", j);
     say(b":");
     let a = bytes_of(&A);
     let mut sheet = [0u8; 4192];
@@ -288,7 +266,7 @@ fn part_of(k: u64, j: u64) {
             let part = tables::front(&mut out, m);
             say_words(&part[..]);
         }
-        Written::Refused(r) => say_refusal(r),
+        Written::Refused(r) => say_refusal(b" ", r),
     }
     say(b"\n");
 }

@@ -6,31 +6,15 @@ use checking::Checked;
 use checking::Counted;
 use diagram::Rank;
 use diagram::Setup;
-use libc::STDIN_FILENO;
-use libc::STDOUT_FILENO;
+use programs::say;
+use programs::say_number;
 use ranking::Unranked;
-use rules::Refusal;
-
-fn say(text: &[u8]) {
-    io::write_all(STDOUT_FILENO, text);
-}
 
 // The first `count` bytes of a text.
 fn say_front(text: &[u8], count: usize)
     requires { ⌜ count ≤ length (now text) ⌝ }
 {
     say(&text[0..count]);
-}
-
-fn say_number(text: &[u8], number: u64) {
-    say(text);
-    io::print_decimal(STDOUT_FILENO, number);
-}
-
-fn say_refusal(refusal: Refusal) {
-    say_number(b"refused ", rules::number_of(refusal));
-    say_number(b" at ", rules::place_of(refusal) as u64);
-    say(b"\n");
 }
 
 // The character of a setting: 1 if it is on, 0 if not.
@@ -78,7 +62,7 @@ fn say_line(table: &[u8], n: usize, r: u64)
             say_setup(setup, n);
             say(b"\n");
         }
-        Unranked::Refused(refusal) => say_refusal(refusal),
+        Unranked::Refused(refusal) => programs::refuse(refusal),
     }
 }
 
@@ -110,7 +94,7 @@ fn list_accepted(table: &[u8], n: usize, nodes: usize)
             say(b"\n");
             say_lines(table, n, c);
         }
-        Counted::Refused(refusal) => say_refusal(refusal),
+        Counted::Refused(refusal) => programs::refuse(refusal),
     }
 }
 
@@ -120,16 +104,14 @@ fn list(table: &[u8]) {
     let checked = checking::check(table, &mut sheet);
     match checked {
         Checked::Table(shape) => list_accepted(table, shape.settings as usize, shape.nodes),
-        Checked::Refused(refusal) => say_refusal(refusal),
+        Checked::Refused(refusal) => programs::refuse(refusal),
     }
 }
 
 fn main() {
-    let mut input = [0u8; 4097];
-    let length = io::read_full(STDIN_FILENO, &mut input);
-    if 4096 < length {
-        say(b"too long\n");
-    } else {
-        list(&input[..length]);
+    let mut memory = [0u8; 4097];
+    let input = programs::read_table(&mut memory);
+    if input.whole {
+        list(&memory[..input.length]);
     }
 }

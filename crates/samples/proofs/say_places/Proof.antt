@@ -7,6 +7,6 @@ use Rattle.samples.proofs.say_places.Tie as tie
 pub say-places-spec : {M : Type 1} → statement M
 say-places-spec =
     tie.close
-    (tie.spec (λ sheet nodes k₀ k. k ≤ 4) (λ sheet nodes k₀ k. 4 - k) (λ c. search needs) (λ c κs. search needs)
-    (λ c. search needs) (λ c κs. search needs) (λ c κs. search needs) (λ c. search needs) (λ c. search needs) (λ c. search needs)
-    (λ c. search needs))
+    (tie.spec (λ sheet nodes k₀ t5 k. k ≤ 4) (λ sheet nodes k₀ t5 k. 4 - k) (λ c. search needs) (λ c κs. search needs)
+    (λ c. search needs) (λ c. search needs) (λ c κs. search needs) (λ c κs. search needs) (λ c. search needs)
+    (λ c. search needs) (λ c. search needs) (λ c. search needs))

@@ -8,5 +8,5 @@ pub sizes-spec : {M : Type 1} → statement M
 sizes-spec =
     tie.close
     (tie.spec (λ k shown j₀ t6 j. j ≤ shown) (λ k shown j₀ t6 j. shown - j) (λ c. search needs) (λ c κs. search needs)
-    (λ c κs. search needs) (λ c. search needs) (λ c κs. search needs) (λ c. search needs) (λ c κs. search needs) (λ c. search needs)
+    (λ c. search needs) (λ c κs. search needs) (λ c. search needs) (λ c κs. search needs) (λ c. search needs)
     (λ c. search needs) (λ c. search needs) (λ c. search needs) (λ c κs. search needs) (λ c. search needs))
