@@ -2,7 +2,9 @@
 //! an implementation of the paper that shares no code with it.
 //!
 //! - `call`: the calls that are compared, and what a call leaves behind
-//! - `paper`: the paper, straight; `reading`: a table, and `part`: the table of a part, after it
+//! - `paper`: the paper, straight; `reading`: a table, `part`: the table of a part, and `listing`:
+//!   what `setuplist` prints, after it
+//! - `diagram`: diagrams without flags, from which tables are written
 //! - `library`: the library under test; `memory`: what is lent to it, guarded
 //! - `tables`: accepted tables; `damage`: tables with faults; `sheets`: sheets and out memories
 //! - `layout`: words, bytes and the fields of a word
@@ -12,8 +14,10 @@
 pub mod call;
 pub mod comparison;
 pub mod damage;
+pub mod diagram;
 pub mod layout;
 pub mod library;
+pub mod listing;
 pub mod memory;
 pub mod paper;
 pub mod part;

@@ -1,9 +1,10 @@
-//! Accepted tables, as rows of words: from a truth table, at random level by level, and without
-//! records.
+//! Accepted tables, as rows of words: from a truth table, from states, at random level by level, and
+//! without records.
 
 use std::collections::{BTreeMap, BTreeSet, HashMap, HashSet};
 use std::ops::Range;
 
+use crate::diagram::{Diagram, ALWAYS, NEVER};
 use crate::layout::{fields, word};
 use crate::rng::Rng;
 
@@ -114,6 +115,26 @@ pub fn from_truth_table(function: &TruthTable) -> Vec<u64> {
     }
     words[0] = word(n, words.len() as u64 - 1, 2 * numbers[&root] + root_flag);
     words
+}
+
+/// The table of the setups of n settings that are permitted so: from state 0 on, the settings lead
+/// from state to state, the first one first, or to none, and the last state is a permitted one.
+pub fn from_states(
+    n: u64,
+    states: usize,
+    next: impl Fn(usize, bool) -> Option<usize>,
+    is_permitted: impl Fn(usize) -> bool,
+) -> Vec<u64> {
+    let mut diagram = Diagram::default();
+    let last = |state| if is_permitted(state) { ALWAYS } else { NEVER };
+    let mut nodes: Vec<u64> = (0..states).map(last).collect();
+    for height in 1..=n {
+        let below = |state, on| next(state, on).map_or(NEVER, |state| nodes[state]);
+        nodes = (0..states)
+            .map(|state| diagram.number(height, below(state, true), below(state, false)))
+            .collect();
+    }
+    diagram.write(n, nodes[0])
 }
 
 /// How many records of which height, from the lowest height up.

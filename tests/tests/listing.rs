@@ -7,15 +7,11 @@ use std::path::{Path, PathBuf};
 use std::process::{Command, Stdio};
 use std::time::Duration;
 
-use setupbook_tests::call::Call;
 use setupbook_tests::damage;
 use setupbook_tests::layout::bytes_of;
-use setupbook_tests::paper;
-use setupbook_tests::reading::Table;
+use setupbook_tests::listing::{listing, LONGEST};
 use setupbook_tests::rng::Rng;
 use setupbook_tests::tables;
-
-const LONGEST: usize = 4096;
 
 fn tests_folder() -> &'static Path {
     Path::new(env!("CARGO_MANIFEST_DIR"))
@@ -54,36 +50,6 @@ fn printed(pieces: &[&[u8]]) -> String {
     let output = child.wait_with_output().unwrap();
     assert!(output.status.code().is_some(), "ended by a signal");
     String::from_utf8(output.stdout).unwrap()
-}
-
-/// The listing after the paper.
-fn listing(table: &[u8]) -> String {
-    if table.len() > LONGEST {
-        return "too long\n".to_string();
-    }
-    if let Some(refusal) = paper::table_refusals(Call::Count, table, usize::MAX).first() {
-        return format!("refused {} at {}\n", refusal.number, refusal.place);
-    }
-    let table = Table::read(table);
-    let counts = table.counts();
-    let total = table.total(&counts);
-    let (n, node_count) = (table.n, table.node_count);
-    let mut text = format!("vars {n} nodes {node_count} count {total}\n");
-    for rank in (0..256).take_while(|&rank| u128::from(rank) < total) {
-        let setup = digits(table.setup_number(rank, &counts), n as usize);
-        text += &format!("{rank} {setup}\n");
-    }
-    if total > 256 {
-        text += "more\n";
-    }
-    text
-}
-
-fn digits(setup: u64, n: usize) -> String {
-    match n {
-        0 => "-".to_string(),
-        _ => format!("{setup:0n$b}"),
-    }
 }
 
 /// The bytes of a table written as hexadecimal words, one a line; # starts a comment line.
