@@ -5,7 +5,8 @@
 //! - `paper`: the paper, straight; `reading`: a table, `part`: the table of a part, and `listing`:
 //!   what `setuplist` prints, after it
 //! - `diagram`: diagrams without flags, from which tables are written
-//! - `library`: the library under test; `memory`: what is lent to it, guarded
+//! - `library`: the library under test; `memory`: what is lent to it, guarded; `program`: the
+//!   programs, run
 //! - `tables`: accepted tables; `damage`: tables with faults; `sheets`: sheets and out memories
 //! - `layout`: words, bytes and the fields of a word
 //! - `comparison`: runs a call on both sides; `tally`: which cases have been met
@@ -21,6 +22,7 @@ pub mod listing;
 pub mod memory;
 pub mod paper;
 pub mod part;
+pub mod program;
 pub mod reading;
 pub mod rng;
 pub mod sheets;

@@ -2,14 +2,12 @@
 //! paper.
 
 use std::fs;
-use std::io::Write;
-use std::path::{Path, PathBuf};
-use std::process::{Command, Stdio};
-use std::time::Duration;
+use std::path::Path;
 
 use setupbook_tests::damage;
 use setupbook_tests::layout::bytes_of;
 use setupbook_tests::listing::{listing, LONGEST};
+use setupbook_tests::program;
 use setupbook_tests::rng::Rng;
 use setupbook_tests::tables;
 
@@ -17,39 +15,9 @@ fn tests_folder() -> &'static Path {
     Path::new(env!("CARGO_MANIFEST_DIR"))
 }
 
-/// In the folder that SETUPBOOK_PROGRAMS names, or in `../target/bin`.
-fn program() -> PathBuf {
-    let folder = std::env::var_os("SETUPBOOK_PROGRAMS").unwrap_or("../target/bin".into());
-    tests_folder().join(folder).join("setuplist")
-}
-
-/// What the program prints if it is given the input in pieces, with pauses between them.
+/// What `setuplist` prints.
 fn printed(pieces: &[&[u8]]) -> String {
-    let program = program();
-    let mut child = Command::new(&program)
-        .stdin(Stdio::piped())
-        .stdout(Stdio::piped())
-        .spawn()
-        .unwrap_or_else(|error| {
-            panic!(
-                "{}: {error}: build it first or set SETUPBOOK_PROGRAMS",
-                program.display()
-            )
-        });
-    let mut input = child.stdin.take().unwrap();
-    for (i, piece) in pieces.iter().enumerate() {
-        if i > 0 {
-            std::thread::sleep(Duration::from_millis(2));
-        }
-        // The program need not read what is too long to its end.
-        if input.write_all(piece).is_err() {
-            break;
-        }
-    }
-    drop(input);
-    let output = child.wait_with_output().unwrap();
-    assert!(output.status.code().is_some(), "ended by a signal");
-    String::from_utf8(output.stdout).unwrap()
+    program::printed("setuplist", pieces)
 }
 
 /// The bytes of a table written as hexadecimal words, one a line; # starts a comment line.
