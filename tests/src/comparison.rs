@@ -169,7 +169,8 @@ impl Comparison {
     }
 }
 
-fn difference(expected: &Outcome, found: &Outcome) -> String {
+/// Both answers, and where the memories differ.
+pub fn difference(expected: &Outcome, found: &Outcome) -> String {
     let mut text = format!(
         "by the paper:   {:?}\nby the library: {:?}",
         expected.answer, found.answer,

@@ -10,19 +10,23 @@
 //! - `tables`: accepted tables; `damage`: tables with faults; `sheets`: sheets and out memories
 //! - `layout`: words, bytes and the fields of a word
 //! - `comparison`: runs a call on both sides; `tally`: which cases have been met
+//! - `fuzz`: calls on raw bytes; `raw`: these bytes; `pages`: what is lent, between guard pages
 //! - `rng`: pseudo-random numbers
 
 pub mod call;
 pub mod comparison;
 pub mod damage;
 pub mod diagram;
+pub mod fuzz;
 pub mod layout;
 pub mod library;
 pub mod listing;
 pub mod memory;
+pub mod pages;
 pub mod paper;
 pub mod part;
 pub mod program;
+pub mod raw;
 pub mod reading;
 pub mod rng;
 pub mod sheets;

@@ -127,23 +127,32 @@ impl Lent {
     }
 
     fn call(&mut self, call: Call) -> u64 {
-        let (t, t_len) = self.table.lend();
-        let (s, s_len) = self.sheet.lend();
-        let (o, o_len) = self.out.lend();
+        let (table, sheet, out) = (self.table.lend(), self.sheet.lend(), self.out.lend());
         // SAFETY: each pointer is valid for its length, and the three memories lie apart.
-        unsafe {
-            match call {
-                Call::Check => ffi::setupbook_check(t, t_len, s, s_len),
-                Call::Count => ffi::setupbook_count(t, t_len, s, s_len),
-                Call::Test { setup } => ffi::setupbook_test(t, t_len, setup, s, s_len),
-                Call::Rank { setup } => ffi::setupbook_rank(t, t_len, setup, s, s_len),
-                Call::Unrank { rank } => ffi::setupbook_unrank(t, t_len, rank, s, s_len),
-                Call::SpanStart { k, j } => ffi::setupbook_span_start(t, t_len, k, j, s, s_len),
-                Call::SpanSize { k, j } => ffi::setupbook_span_size(t, t_len, k, j, s, s_len),
-                Call::PartWrite { k, j } => {
-                    ffi::setupbook_part_write(t, t_len, k, j, s, s_len, o, o_len)
-                }
-            }
-        }
+        unsafe { call_with(call, table, sheet, out) }
+    }
+}
+
+/// The library's answer to a call with these memories: pointers and lengths.
+///
+/// # Safety
+///
+/// Each pointer is valid for its length, for writing too but for the table's, and the three
+/// memories lie apart.
+pub unsafe fn call_with(
+    call: Call,
+    (t, t_len): (*mut u8, usize),
+    (s, s_len): (*mut u8, usize),
+    (o, o_len): (*mut u8, usize),
+) -> u64 {
+    match call {
+        Call::Check => ffi::setupbook_check(t, t_len, s, s_len),
+        Call::Count => ffi::setupbook_count(t, t_len, s, s_len),
+        Call::Test { setup } => ffi::setupbook_test(t, t_len, setup, s, s_len),
+        Call::Rank { setup } => ffi::setupbook_rank(t, t_len, setup, s, s_len),
+        Call::Unrank { rank } => ffi::setupbook_unrank(t, t_len, rank, s, s_len),
+        Call::SpanStart { k, j } => ffi::setupbook_span_start(t, t_len, k, j, s, s_len),
+        Call::SpanSize { k, j } => ffi::setupbook_span_size(t, t_len, k, j, s, s_len),
+        Call::PartWrite { k, j } => ffi::setupbook_part_write(t, t_len, k, j, s, s_len, o, o_len),
     }
 }

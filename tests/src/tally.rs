@@ -2,7 +2,7 @@
 
 use std::collections::{BTreeMap, BTreeSet};
 
-use crate::call::{Call, Refusal};
+use crate::call::{Answer, Call, Refusal};
 
 /// The refusals of every operation in the paper's order; of 1 its second place, since a table
 /// under 8 bytes has no other condition but 15.
@@ -31,6 +31,35 @@ fn operation(call: Call) -> &'static str {
         Call::SpanStart { .. } => "span start",
         Call::SpanSize { .. } => "span size",
         Call::PartWrite { .. } => "part-write",
+    }
+}
+
+/// Whether an operation may answer this refusal, or a result if it is 0.
+fn is_listed(name: &str, number: u64) -> bool {
+    let own = OPERATIONS.iter().find(|operation| operation.0 == name);
+    number == 0 || SHARED.contains(&number) || own.unwrap().1.contains(&number)
+}
+
+/// Whether an answer is one that is listed for its call, whatever the table is.
+pub fn is_listed_answer(call: Call, answer: Answer) -> bool {
+    match answer.refusal() {
+        Some(Refusal { number, place }) => {
+            let places = if (4..=9).contains(&number) {
+                1..=65_535
+            } else {
+                0..=0
+            };
+            number > 0 && is_listed(operation(call), number) && places.contains(&place)
+        }
+        None => match call {
+            Call::Check => answer.0 >> 32 <= 63 && answer.0 & 0xFFFF_FFFF <= 65_535,
+            Call::Test { .. } => answer.0 <= 1,
+            Call::PartWrite { .. } => {
+                (8..=524_288).contains(&answer.0) && answer.0.is_multiple_of(8)
+            }
+            Call::Rank { .. } | Call::Unrank { .. } => answer.0 < 1 << 63,
+            Call::Count | Call::SpanStart { .. } | Call::SpanSize { .. } => answer.0 <= 1 << 63,
+        },
     }
 }
 
@@ -88,12 +117,11 @@ impl Tally {
 
     /// Every result and every refusal of every operation has been met, and no other.
     pub fn assert_every_answer(&self) {
-        for (name, own) in OPERATIONS {
+        for (name, _) in OPERATIONS {
             for number in 0..=16 {
-                let possible = number == 0 || SHARED.contains(&number) || own.contains(&number);
                 let met = self.answered(name, number) > 0;
                 assert!(
-                    met == possible,
+                    met == is_listed(name, number),
                     "{name}, refusal {number} (0: a result): met is {met}"
                 );
             }
@@ -130,6 +158,26 @@ impl Tally {
                 );
             }
         }
+    }
+
+    /// A line an operation: its calls, its results and how often each refusal was met.
+    pub fn lines(&self) -> String {
+        let mut text = String::from("operation       calls    result");
+        for number in 1..=16 {
+            text += &format!(" {number:>8}");
+        }
+        for (name, _) in OPERATIONS {
+            let counts: Vec<u64> = (0..=16).map(|number| self.answered(name, number)).collect();
+            text += &format!("\n{name:<10} {:>10}", counts.iter().sum::<u64>());
+            for (number, count) in counts.iter().enumerate() {
+                let shown = match is_listed(name, number as u64) {
+                    true => count.to_string(),
+                    false => String::from("-"),
+                };
+                text += &format!(" {shown:>8}");
+            }
+        }
+        text
     }
 
     pub fn summary(&self) -> String {
