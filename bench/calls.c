@@ -1,0 +1,55 @@
+/* Calls by number. */
+#include "calls.h"
+
+#include "../include/setupbook.h"
+
+#define T const uint8_t *table, size_t table_len
+#define S uint8_t *sheet, size_t sheet_len
+uint64_t setupbook_check(T, S), setupbook_count(T, S), setupbook_test(T, uint64_t setup, S);
+uint64_t plain_check(T, S), plain_count(T, S), plain_test(T, uint64_t setup, S);
+uint64_t plain_rank(T, uint64_t setup, S), plain_unrank(T, uint64_t rank, S);
+uint64_t plain_part_write(T, uint64_t k, uint64_t j, S, uint8_t *out, size_t out_len);
+#undef T
+#undef S
+
+const char *operation_name(enum operation op)
+{
+    static const char *const names[] = {"check", "count", "test", "rank", "unrank", "part-write"};
+    return names[op];
+}
+
+size_t sheet_len_of(enum operation op, uint32_t count)
+{
+    return 8 * (op == PART_WRITE ? 4 * (size_t)count + 512 : (size_t)count + 1);
+}
+
+static uint64_t ours(enum operation op, const struct lent *m, struct numbers x)
+{
+    switch (op) {
+    case CHECK: return setupbook_check(m->table, m->table_len, m->sheet, m->sheet_len);
+    case COUNT: return setupbook_count(m->table, m->table_len, m->sheet, m->sheet_len);
+    case TEST: return setupbook_test(m->table, m->table_len, x.a, m->sheet, m->sheet_len);
+    case RANK: return setupbook_rank(m->table, m->table_len, x.a, m->sheet, m->sheet_len);
+    case UNRANK: return setupbook_unrank(m->table, m->table_len, x.a, m->sheet, m->sheet_len);
+    default:
+        return setupbook_part_write(m->table, m->table_len, x.a, x.b, m->sheet, m->sheet_len, m->out, m->out_len);
+    }
+}
+
+static uint64_t plain(enum operation op, const struct lent *m, struct numbers x)
+{
+    switch (op) {
+    case CHECK: return plain_check(m->table, m->table_len, m->sheet, m->sheet_len);
+    case COUNT: return plain_count(m->table, m->table_len, m->sheet, m->sheet_len);
+    case TEST: return plain_test(m->table, m->table_len, x.a, m->sheet, m->sheet_len);
+    case RANK: return plain_rank(m->table, m->table_len, x.a, m->sheet, m->sheet_len);
+    case UNRANK: return plain_unrank(m->table, m->table_len, x.a, m->sheet, m->sheet_len);
+    default:
+        return plain_part_write(m->table, m->table_len, x.a, x.b, m->sheet, m->sheet_len, m->out, m->out_len);
+    }
+}
+
+uint64_t call(enum side side, enum operation op, const struct lent *m, struct numbers x)
+{
+    return side == OURS ? ours(op, m, x) : plain(op, m, x);
+}

@@ -1,0 +1,118 @@
+/* Ours against plain C: answers and every byte of sheet and out memory. */
+#include "compare.h"
+
+#include <stdio.h>
+#include <stdlib.h>
+#include <string.h>
+
+#include "memory.h"
+
+#define CALLS 24
+#define DAMAGED 24
+
+/* The memories of the two sides. */
+struct pair {
+    struct lent of[SIDES];
+    uint64_t seed;
+    unsigned calls;
+};
+
+static void fill(uint64_t *seed, uint8_t *a, uint8_t *b, size_t len)
+{
+    for (size_t i = 0; i < len; i += 8) {
+        uint64_t x = next_random(seed);
+        memcpy(a + i, &x, len - i < 8 ? len - i : 8);
+    }
+    memcpy(b, a, len);
+}
+
+static void stop(const struct table *t, enum operation op, struct numbers x, const char *what)
+{
+    fprintf(stderr, "bench: %s, %s of %llu, %llu: %s\n", t->name, operation_name(op), (unsigned long long)x.a,
+            (unsigned long long)x.b, what);
+    exit(1);
+}
+
+/* Whether the sheet behind place N is the call's own: after a part written, 11 and 16. */
+static int leaves_scratch(enum operation op, uint64_t answer)
+{
+    uint64_t refusal = answer >> 63 ? answer >> 32 & 0x7fffffff : 0;
+    return op == PART_WRITE && (refusal == 0 || refusal == 11 || refusal == 16);
+}
+
+static void compare_call(const struct table *t, struct pair *p, enum operation op, struct numbers x)
+{
+    struct lent *a = &p->of[OURS], *b = &p->of[PLAIN];
+    size_t len = a->sheet_len, rest = len;
+    fill(&p->seed, a->sheet, b->sheet, len + GUARD);
+    fill(&p->seed, a->out, b->out, 8 * ((size_t)t->count + 128) + GUARD);
+    uint64_t ours = call(OURS, op, a, x), plain = call(PLAIN, op, b, x);
+    if (ours != plain) stop(t, op, x, "the answers differ");
+    if (leaves_scratch(op, ours)) rest = 8 * ((size_t)t->count + 1);
+    if (memcmp(a->sheet, b->sheet, rest)) stop(t, op, x, "the sheets differ");
+    if (memcmp(a->sheet + len, b->sheet + len, GUARD)) stop(t, op, x, "bytes behind the sheet differ");
+    if (memcmp(a->out, b->out, 8 * ((size_t)t->count + 128) + GUARD)) stop(t, op, x, "the out memories differ");
+    if (memcmp(a->table, b->table, a->table_len)) stop(t, op, x, "a table was changed");
+    p->calls++;
+}
+
+/* Call i of CALLS: the first ones at the ends of the ranges, the others random. */
+static struct numbers numbers_of(enum operation op, const struct table *t, struct pair *p, int i)
+{
+    uint64_t count = t->total, all = (uint64_t)1 << t->settings, r = next_random(&p->seed);
+    uint64_t setups[] = {0, all - 1, all, all + 1, all << 1, ~(uint64_t)0};
+    uint64_t ranks[] = {0, count - 1, count, count + 1, (uint64_t)1 << 63, ~(uint64_t)0};
+    struct numbers parts[] = {{PARTS, PART}, {1, 0}, {8, 7}, {0, 0}, {8, 8}, {65535, 65534}, {65536, 0}, {~(uint64_t)0, 5}};
+    if (op == PART_WRITE) {
+        uint64_t k = 1 + r % (i % 2 ? 65535 : 9);
+        return i < 8 ? parts[i] : (struct numbers){k, next_random(&p->seed) % k};
+    }
+    if (i < 6) return (struct numbers){op == UNRANK ? ranks[i] : setups[i], 0};
+    if (i < 14 && op != UNRANK) return (struct numbers){r >> (64 - t->settings), 0};
+    return draw_numbers(op, t, &p->of[PLAIN], &p->seed);
+}
+
+/* A bit of a record or of the header, a wrong length, or a short sheet or out memory. */
+static void damage(const struct table *t, struct pair *p, int i)
+{
+    uint64_t bit = next_random(&p->seed) % (8 * t->len), out = next_random(&p->seed) % (8 * ((size_t)t->count + 2));
+    if (i >= 20) bit %= 64;
+    for (int side = 0; side < SIDES; side++) {
+        struct lent *m = &p->of[side];
+        if (i > 6) ((uint8_t *)m->table)[bit / 8] ^= 1 << bit % 8;
+        if (i == 0) m->table_len = 0;
+        if (i == 1) m->table_len -= 8;
+        if (i == 2) m->table_len -= 3;
+        if (i == 3) m->sheet_len -= 1;
+        if (i == 4) m->out_len = out;
+        if (i == 5) m->out_len = 7;
+        if (i == 6) m->table_len = 7;
+    }
+}
+
+static void restore(const struct table *t, struct pair *p, enum operation op)
+{
+    for (int side = 0; side < SIDES; side++) {
+        memcpy((uint8_t *)p->of[side].table, t->bytes, t->len);
+        p->of[side].table_len = t->len;
+        lend_for(&p->of[side], op, t->count);
+    }
+}
+
+unsigned compare(const struct table *t)
+{
+    struct pair p = {{lend(t), lend(t)}, t->count, 0};
+    for (int op = 0; op < OPERATIONS; op++) {
+        restore(t, &p, op);
+        for (int i = 0; i < CALLS; i++) compare_call(t, &p, op, numbers_of(op, t, &p, i));
+        for (int i = 0; i < DAMAGED; i++) {
+            struct numbers x = draw_numbers(op, t, &p.of[PLAIN], &p.seed);
+            damage(t, &p, i);
+            compare_call(t, &p, op, x);
+            restore(t, &p, op);
+        }
+    }
+    give_back(&p.of[OURS]);
+    give_back(&p.of[PLAIN]);
+    return p.calls;
+}

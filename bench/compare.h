@@ -1,0 +1,10 @@
+/* Ours against plain C, before anything is timed. */
+#ifndef COMPARE_H
+#define COMPARE_H
+
+#include "tables.h"
+
+/* Makes every call on both sides; answers how many, or ends the program with a message if an answer or a byte differs. */
+unsigned compare(const struct table *t);
+
+#endif

@@ -1,0 +1,40 @@
+/* The workloads: tables made in code, the same in every run. */
+#ifndef TABLES_H
+#define TABLES_H
+
+#include <stddef.h>
+#include <stdint.h>
+
+#define LONGEST 65535 /* records of the longest table */
+
+/* A table of `count` records over `settings` settings that permits `total` setups; `bytes` is of malloc. */
+struct table {
+    const char *name;
+    uint32_t settings, count;
+    uint64_t total;
+    uint8_t *bytes;
+    size_t len;
+};
+
+/* The next number of a seeded row (splitmix64). */
+uint64_t next_random(uint64_t *seed);
+
+/* The fields of word k: its uppermost six bits, the then-edge and the else-edge. */
+uint32_t height_of(const struct table *t, uint32_t k);
+uint32_t then_of(const struct table *t, uint32_t k);
+uint32_t else_of(const struct table *t, uint32_t k);
+
+/* Sample A: three settings, three records, six setups. */
+struct table sample_a(void);
+
+/* The independent sets of a path of 63 vertices. */
+struct table path_63(void);
+
+/* Exactly 31 of 63 settings. */
+struct table exactly_31(void);
+
+/* A random table over 63 settings with exactly this many records (256 to 65,535), its heights as
+ * even as they can be; about half of the else-edges are flagged. */
+struct table wide(const char *name, uint32_t count);
+
+#endif
