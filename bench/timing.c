@@ -1,0 +1,93 @@
+/* Timing: ours and plain C by turns, call by call, so that drift hits both; medians. */
+#include "timing.h"
+
+#include <emmintrin.h>
+#include <stdlib.h>
+#include <string.h>
+#include <time.h>
+
+#include "memory.h"
+
+#define ROUNDS 20000 /* most readings of a side */
+#define LEAST 15     /* fewest */
+#define DRAWN 256    /* numbers drawn in advance */
+
+double now(void)
+{
+    struct timespec t;
+    clock_gettime(CLOCK_MONOTONIC, &t);
+    return (double)t.tv_sec + 1e-9 * (double)t.tv_nsec;
+}
+
+static int compare_values(const void *a, const void *b)
+{
+    double x = *(const double *)a, y = *(const double *)b;
+    return (x > y) - (x < y);
+}
+
+double median(double *values, unsigned count)
+{
+    qsort(values, count, sizeof *values, compare_values);
+    return count % 2 ? values[count / 2] : (values[count / 2 - 1] + values[count / 2]) / 2;
+}
+
+static void flush(const uint8_t *p, size_t len)
+{
+    for (size_t i = 0; i < len; i += 64) _mm_clflush(p + i);
+}
+
+static void clear(const struct lent *m)
+{
+    memset(m->sheet, 0, m->sheet_len);
+    memset(m->out, 0, m->out_len);
+    flush(m->table, m->table_len);
+    flush(m->sheet, m->sheet_len);
+    flush(m->out, m->out_len);
+    _mm_mfence();
+}
+
+/* One reading: the mean of `batch` calls, after one untimed call or a clearing. */
+static double reading(enum side side, enum operation op, enum condition c, const struct lent *m, const struct numbers *x,
+                      unsigned batch)
+{
+    volatile uint64_t kept = 0;
+    if (c == CLEARED) clear(m);
+    else kept = call(side, op, m, x[0]);
+    double start = now();
+    for (unsigned i = 0; i < batch; i++) kept += call(side, op, m, x[i % DRAWN]);
+    return 1e6 * (now() - start) / batch;
+}
+
+/* What the clock itself takes, in microseconds. */
+static double clock_cost(void)
+{
+    double values[101];
+    for (int i = 0; i < 101; i++) {
+        double start = now();
+        values[i] = 1e6 * (now() - start);
+    }
+    return median(values, 101);
+}
+
+void time_both(const struct table *t, enum operation op, enum condition c, double seconds, double *micros)
+{
+    struct lent m = lend(t);
+    struct numbers x[2 * DRAWN];
+    uint64_t seed = op + 1;
+    double *values[SIDES], end = now() + seconds, clock = clock_cost();
+    unsigned rounds = 0, batch = c == WARM ? 1 + 2000 / (t->count + 1) : 1;
+    lend_for(&m, op, t->count);
+    for (int i = 0; i < DRAWN; i++) x[i] = x[i + DRAWN] = draw_numbers(op, t, &m, &seed);
+    for (int side = 0; side < SIDES; side++)
+        if (!(values[side] = malloc(ROUNDS * sizeof(double)))) abort();
+    for (; rounds < LEAST || (rounds < ROUNDS && now() < end); rounds++)
+        for (unsigned turn = 0; turn < SIDES; turn++) {
+            enum side side = (rounds + turn) % SIDES;
+            values[side][rounds] = reading(side, op, c, &m, x + rounds % DRAWN, batch);
+        }
+    for (int side = 0; side < SIDES; side++) {
+        micros[side] = median(values[side], rounds) - clock / batch;
+        free(values[side]);
+    }
+    give_back(&m);
+}

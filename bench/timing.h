@@ -1,0 +1,18 @@
+/* Ours and plain C side by side. */
+#ifndef TIMING_H
+#define TIMING_H
+
+#include "calls.h"
+#include "tables.h"
+
+/* WARM: the same memory again and again. CLEARED: before each call sheet and out memory are zeroed,
+ * and they and the table are flushed from the caches. */
+enum condition { WARM, CLEARED, CONDITIONS };
+
+double now(void); /* seconds */
+double median(double *values, unsigned count);
+
+/* Medians of both sides in microseconds a call, within about this many seconds. */
+void time_both(const struct table *t, enum operation op, enum condition c, double seconds, double *micros);
+
+#endif
