@@ -112,7 +112,7 @@ static void add_height(struct table *t, uint32_t height, uint32_t (*edge)[2], ui
     }
 }
 
-struct table sample_a(void)
+static struct table sample_a(void)
 {
     struct table t = empty_table("sample A", 3);
     put_word(&t, 1, word_of(1, 0, 1));
@@ -123,7 +123,7 @@ struct table sample_a(void)
 }
 
 /* State 0: the vertex before is out; state 1: it is in. */
-struct table path_63(void)
+static struct table path_63(void)
 {
     struct table t = empty_table("path 63", TOP);
     uint32_t edge[2][2] = {{0, 0}, {0, 0}};
@@ -139,7 +139,7 @@ struct table path_63(void)
 }
 
 /* State i: 31 - i settings are still to be chosen; under height h at most 63 - h are chosen. */
-struct table exactly_31(void)
+static struct table exactly_31(void)
 {
     struct table t = empty_table("31 of 63", TOP);
     uint32_t edge[STATES][2];
@@ -222,4 +222,15 @@ struct table wide(const char *name, uint32_t count)
     }
     free(words);
     return closed(t, next_random(&seed) & 1);
+}
+
+struct table workload(enum workload w)
+{
+    switch (w) {
+    case SAMPLE_A: return sample_a();
+    case PATH_63: return path_63();
+    case EXACTLY_31: return exactly_31();
+    case MIDDLE: return wide("wide 4,000", 4000);
+    default: return wide("wide 65,535", LONGEST);
+    }
 }

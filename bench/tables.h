@@ -24,14 +24,10 @@ uint32_t height_of(const struct table *t, uint32_t k);
 uint32_t then_of(const struct table *t, uint32_t k);
 uint32_t else_of(const struct table *t, uint32_t k);
 
-/* Sample A: three settings, three records, six setups. */
-struct table sample_a(void);
-
-/* The independent sets of a path of 63 vertices. */
-struct table path_63(void);
-
-/* Exactly 31 of 63 settings. */
-struct table exactly_31(void);
+/* Sample A (3 settings, 3 records); the independent sets of a path of 63 vertices; exactly 31 of 63
+ * settings; two random tables, of 4,000 records and of as many as a table can have. */
+enum workload { SAMPLE_A, PATH_63, EXACTLY_31, MIDDLE, WIDE, WORKLOADS };
+struct table workload(enum workload w);
 
 /* A random table over 63 settings with exactly this many records (256 to 65,535), its heights as
  * even as they can be; about half of the else-edges are flagged. */

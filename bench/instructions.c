@@ -1,0 +1,43 @@
+/* The program that runs under callgrind: each operation of each side, COUNTED_CALLS times, with a dump
+ * of its own that is named "workload operation side". */
+#include "instructions.h"
+
+#include <stdio.h>
+#include <valgrind/callgrind.h>
+
+#include "memory.h"
+
+/* Must not be inlined: nothing but the calls is counted. */
+static __attribute__((noinline)) void count(enum side side, enum operation op, const struct lent *m, const struct numbers *x)
+{
+    CALLGRIND_ZERO_STATS;
+    for (int i = 0; i < COUNTED_CALLS; i++) call(side, op, m, x[i]);
+}
+
+static void count_workload(enum workload w)
+{
+    struct table t = workload(w);
+    struct lent m = lend(&t);
+    for (int op = 0; op < OPERATIONS; op++) {
+        struct numbers x[COUNTED_CALLS];
+        uint64_t seed = op + 1;
+        lend_for(&m, op, t.count);
+        for (int i = 0; i < COUNTED_CALLS; i++) x[i] = draw_numbers(op, &t, &m, &seed);
+        for (int side = 0; side < SIDES; side++) {
+            char name[64];
+            snprintf(name, sizeof name, "%d %d %d", w, op, side);
+            count(side, op, &m, x);
+            CALLGRIND_DUMP_STATS_AT(name);
+        }
+    }
+    give_back(&m);
+}
+
+int main(void)
+{
+    CALLGRIND_START_INSTRUMENTATION;
+    count_workload(PATH_63);
+    count_workload(MIDDLE);
+    count_workload(WIDE);
+    return 0;
+}

@@ -1,0 +1,7 @@
+/* Instruction counts, from callgrind. */
+#ifndef INSTRUCTIONS_H
+#define INSTRUCTIONS_H
+
+#define COUNTED_CALLS 8 /* calls of each operation that one count is the sum of */
+
+#endif

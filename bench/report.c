@@ -1,0 +1,99 @@
+/* The report: Markdown that reads as plain text too. */
+#include "report.h"
+
+#include <stdio.h>
+#include <string.h>
+#include <unistd.h>
+
+#define INSTRUCTION_BAR 1.5
+#define PART_WRITE_BAR 2.0
+#define BUDDY_BAR 20.0
+
+/* The processor's model, of /proc/cpuinfo. */
+static void print_machine(void)
+{
+    char line[256], *model = NULL;
+    FILE *f = fopen("/proc/cpuinfo", "r");
+    while (f && !model && fgets(line, sizeof line, f))
+        if (!strncmp(line, "model name", 10)) model = strchr(line, ':');
+    if (f) fclose(f);
+    if (model) model[strcspn(model, "\n")] = 0;
+    printf("Machine: %s, %ld cores; gcc %s -O3.\n\n", model ? model + 2 : "unknown processor", sysconf(_SC_NPROCESSORS_ONLN),
+           __VERSION__);
+}
+
+static void print_medians(const struct results *r)
+{
+    printf("## Times\n\n"
+           "Medians in µs a call, ours and plain C by turns; ratio = ours / plain C. Warm: the same memory again and again.\n"
+           "Cleared: before each call sheet and out memory are zeroed, and they and the table are flushed from the caches.\n\n"
+           "| table       |      N | operation  | ours warm | plain warm | ratio | ours cleared | plain cleared | ratio |\n"
+           "|-------------|-------:|------------|----------:|-----------:|------:|-------------:|--------------:|------:|\n");
+    for (int w = 0; w < WORKLOADS; w++)
+        for (int op = 0; op < OPERATIONS; op++) {
+            const double *a = r->micros[w][op][WARM], *c = r->micros[w][op][CLEARED];
+            printf("| %-11s | %6u | %-10s | %9.2f | %10.2f | %5.2f | %12.2f | %13.2f | %5.2f |\n", r->table[w].name,
+                   r->table[w].count, operation_name(op), a[OURS], a[PLAIN], a[OURS] / a[PLAIN], c[OURS], c[PLAIN],
+                   c[OURS] / c[PLAIN]);
+        }
+    printf("\n![rank and part-write against N](bench.svg)\n\n");
+}
+
+static void print_instructions(const struct results *r)
+{
+    printf("## Instructions\n\n"
+           "Instructions a call, counted by callgrind, libc's included: the noise-free ratio.\n\n"
+           "| table       | operation  |     ours |  plain C | ratio |\n"
+           "|-------------|------------|---------:|---------:|------:|\n");
+    for (int w = 0; w < WORKLOADS; w++)
+        for (int op = 0; op < OPERATIONS; op++) {
+            const double *i = r->instructions[w][op];
+            if (i[OURS] > 0)
+                printf("| %-11s | %-10s | %8.0f | %8.0f | %5.2f |\n", r->table[w].name, operation_name(op), i[OURS], i[PLAIN],
+                       i[OURS] / i[PLAIN]);
+        }
+    printf("\n");
+}
+
+static void print_buddy(const struct results *r)
+{
+    printf("## Count beside BuDDy\n\n"
+           "The same diagram in BuDDy, in µs. Its whole job: loading from the table's bytes with bdd_ite, and bdd_satcount.\n"
+           "bdd_init and bdd_setvarnum are not timed; its tables are sized for it. Ours: count, cleared.\n\n"
+           "| table       |    whole | satcount |   ours | whole / ours | satcount / ours |\n"
+           "|-------------|---------:|---------:|-------:|-------------:|----------------:|\n");
+    for (int w = 0; w < WORKLOADS; w++) {
+        const struct buddy *b = &r->buddy[w];
+        double ours = r->micros[w][COUNT][CLEARED][OURS];
+        printf("| %-11s | %8.1f | %8.1f | %6.1f | %12.1f | %15.1f |\n", r->table[w].name, b->whole, b->satcount, ours,
+               b->whole / ours, b->satcount / ours);
+    }
+    printf("\n");
+}
+
+static void print_bars(const struct results *r)
+{
+    double buddy = r->buddy[WIDE].whole / r->micros[WIDE][COUNT][CLEARED][OURS];
+    printf("## The bars, on the wide table\n\n"
+           "| what                                         | bar    | measured | verdict |\n"
+           "|----------------------------------------------|--------|---------:|---------|\n");
+    for (int op = 0; op < OPERATIONS; op++) {
+        double ratio = r->instructions[WIDE][op][OURS] / r->instructions[WIDE][op][PLAIN];
+        double bar = op == PART_WRITE ? PART_WRITE_BAR : INSTRUCTION_BAR;
+        printf("| %-10s ours / plain C in instructions    | ≤ %4.1f | %8.2f | %-7s |\n", operation_name(op), bar, ratio,
+               ratio <= bar ? "holds" : "missed");
+    }
+    printf("| %-44s | ≥ %4.1f | %8.2f | %-7s |\n", "count      BuDDy's whole job / ours", BUDDY_BAR, buddy,
+           buddy >= BUDDY_BAR ? "holds" : "missed");
+}
+
+void print_report(const struct results *r)
+{
+    printf("# The bench\n\n");
+    print_machine();
+    printf("In %u calls ours and plain C gave the same answers and left the same bytes; BuDDy counts the same.\n\n", r->calls);
+    print_medians(r);
+    print_instructions(r);
+    print_buddy(r);
+    print_bars(r);
+}

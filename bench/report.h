@@ -1,0 +1,18 @@
+/* What was measured, and the report in Markdown. */
+#ifndef REPORT_H
+#define REPORT_H
+
+#include "buddy.h"
+#include "timing.h"
+
+struct results {
+    struct table table[WORKLOADS];
+    unsigned calls; /* compared with plain C */
+    double micros[WORKLOADS][OPERATIONS][CONDITIONS][SIDES];
+    double instructions[WORKLOADS][OPERATIONS][SIDES]; /* 0 if not counted */
+    struct buddy buddy[WORKLOADS];
+};
+
+void print_report(const struct results *r);
+
+#endif
