@@ -9,9 +9,10 @@
 #include "report.h"
 
 #define POINTS 16
-#define WIDE_SECONDS 1.5 /* for each operation and condition on the wide table */
-#define CELL_SECONDS 0.2 /* on the others */
-#define POINT_SECONDS 0.3
+#define PASSES 5           /* over everything that is timed: a figure is the median of its medians */
+#define WIDE_SECONDS 0.3   /* a pass, for each operation and condition on the wide table */
+#define CELL_SECONDS 0.04  /* on the others */
+#define POINT_SECONDS 0.06 /* on a point of the plot */
 #define BUDDY_SECONDS 1.0
 
 static FILE *opened(const char *path, const char *mode)
@@ -35,41 +36,68 @@ static void read_instructions(const char *path, struct results *r)
     exit(1);
 }
 
-static void time_workload(enum workload w, struct results *r)
+/* One pass over all workloads. */
+static void time_workloads(struct results *r, double (*micros)[OPERATIONS][CONDITIONS][SIDES])
 {
-    double seconds = w == WIDE ? WIDE_SECONDS : CELL_SECONDS;
-    for (int op = 0; op < OPERATIONS; op++)
-        for (int c = 0; c < CONDITIONS; c++) time_both(&r->table[w], op, c, seconds, r->micros[w][op][c]);
-    r->buddy[w] = time_buddy(&r->table[w], BUDDY_SECONDS);
+    for (int w = 0; w < WORKLOADS; w++)
+        for (int op = 0; op < OPERATIONS; op++)
+            for (int c = 0; c < CONDITIONS; c++)
+                time_both(&r->table[w], op, c, w == WIDE ? WIDE_SECONDS : CELL_SECONDS, micros[w][op][c]);
 }
 
-static void plot(const char *path)
+/* One pass over the tables of the plot. */
+static void time_points(struct point *points)
 {
-    struct point points[POINTS];
     for (int i = 0; i < POINTS; i++) {
         uint32_t count = 4096 * (i + 1) < LONGEST ? 4096 * (i + 1) : LONGEST;
         struct table t = wide("plot", count);
         points[i].count = count;
-        time_both(&t, RANK, CLEARED, POINT_SECONDS, points[i].micros);
-        time_both(&t, PART_WRITE, CLEARED, POINT_SECONDS, points[i].micros + SIDES);
+        time_both(&t, RANK, WARM, POINT_SECONDS, points[i].micros);
+        time_both(&t, PART_WRITE, WARM, POINT_SECONDS, points[i].micros + SIDES);
         free(t.bytes);
     }
-    FILE *f = opened(path, "w");
-    write_plot(f, points, POINTS);
-    fclose(f);
+}
+
+/* The medians of PASSES rows of `count` figures, which stand one after another. */
+static void medians(const double *passes, unsigned count, double *out)
+{
+    for (unsigned i = 0; i < count; i++) {
+        double values[PASSES];
+        for (int p = 0; p < PASSES; p++) values[p] = passes[p * count + i];
+        out[i] = median(values, PASSES);
+    }
+}
+
+static void time_all(struct results *r, struct point *points)
+{
+    static double micros[PASSES][WORKLOADS][OPERATIONS][CONDITIONS][SIDES];
+    static double lines[PASSES][POINTS * LINES];
+    double line[POINTS * LINES];
+    for (int p = 0; p < PASSES; p++) {
+        time_workloads(r, micros[p]);
+        time_points(points);
+        for (int i = 0; i < POINTS * LINES; i++) lines[p][i] = points[i / LINES].micros[i % LINES];
+    }
+    medians(&micros[0][0][0][0][0], WORKLOADS * OPERATIONS * CONDITIONS * SIDES, &r->micros[0][0][0][0]);
+    medians(&lines[0][0], POINTS * LINES, line);
+    for (int i = 0; i < POINTS * LINES; i++) points[i / LINES].micros[i % LINES] = line[i];
+    for (int w = 0; w < WORKLOADS; w++) r->buddy[w] = time_buddy(&r->table[w], BUDDY_SECONDS);
 }
 
 int main(int argc, char **argv)
 {
     static struct results r;
+    struct point points[POINTS];
     if (argc != 3) return fprintf(stderr, "usage: bench INSTRUCTIONS SVG\n"), 2;
     read_instructions(argv[1], &r);
     for (int w = 0; w < WORKLOADS; w++) {
         r.table[w] = workload(w);
         r.calls += compare(&r.table[w]);
     }
-    for (int w = 0; w < WORKLOADS; w++) time_workload(w, &r);
-    plot(argv[2]);
+    time_all(&r, points);
+    FILE *svg = opened(argv[2], "w");
+    write_plot(svg, points, POINTS);
+    fclose(svg);
     print_report(&r);
     return 0;
 }

@@ -7,13 +7,6 @@
 
 #include "memory.h"
 
-/* Must not be inlined: nothing but the calls is counted. */
-static __attribute__((noinline)) void count(enum side side, enum operation op, const struct lent *m, const struct numbers *x)
-{
-    CALLGRIND_ZERO_STATS;
-    for (int i = 0; i < COUNTED_CALLS; i++) call(side, op, m, x[i]);
-}
-
 static void count_workload(enum workload w)
 {
     struct table t = workload(w);
@@ -26,7 +19,8 @@ static void count_workload(enum workload w)
         for (int side = 0; side < SIDES; side++) {
             char name[64];
             snprintf(name, sizeof name, "%d %d %d", w, op, side);
-            count(side, op, &m, x);
+            CALLGRIND_ZERO_STATS;
+            for (int i = 0; i < COUNTED_CALLS; i++) call(side, op, &m, x[i]);
             CALLGRIND_DUMP_STATS_AT(name);
         }
     }

@@ -4,7 +4,7 @@
 #define WIDTH 760.0
 #define HEIGHT 480.0
 #define LEFT 80.0
-#define RIGHT 740.0
+#define RIGHT 725.0
 #define UPPER 50.0
 #define LOWER 420.0
 #define MOST 70000.0 /* records at the right end */
@@ -81,7 +81,7 @@ void write_plot(FILE *f, const struct point *points, int count)
     fprintf(f, "<svg xmlns='http://www.w3.org/2000/svg' width='%.0f' height='%.0f' font-family='sans-serif' font-size='14'>\n",
             WIDTH, HEIGHT);
     fprintf(f, "<rect width='100%%' height='100%%' fill='white'/>\n");
-    fprintf(f, "<text x='%.1f' y='28' text-anchor='middle' font-size='16'>Random tables over 63 settings, caches cleared</text>\n",
+    fprintf(f, "<text x='%.1f' y='28' text-anchor='middle' font-size='16'>Random tables over 63 settings, warm</text>\n",
             (LEFT + RIGHT) / 2);
     draw_x_axis(f);
     draw_y_axis(f, step, top);

@@ -9,8 +9,8 @@
 #include "memory.h"
 
 #define ROUNDS 20000 /* most readings of a side */
-#define LEAST 15     /* fewest */
-#define DRAWN 256    /* numbers drawn in advance */
+#define LEAST 9      /* fewest */
+#define DRAWN 64     /* numbers drawn in advance */
 
 double now(void)
 {
@@ -72,7 +72,7 @@ static double clock_cost(void)
 void time_both(const struct table *t, enum operation op, enum condition c, double seconds, double *micros)
 {
     struct lent m = lend(t);
-    struct numbers x[2 * DRAWN];
+    struct numbers x[2 * DRAWN]; /* twice the same, to start anywhere */
     uint64_t seed = op + 1;
     double *values[SIDES], end = now() + seconds, clock = clock_cost();
     unsigned rounds = 0, batch = c == WARM ? 1 + 2000 / (t->count + 1) : 1;
