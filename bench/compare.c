@@ -8,7 +8,7 @@
 #include "memory.h"
 
 #define CALLS 24
-#define DAMAGED 24
+#define DAMAGED 27
 
 /* The memories of the two sides. */
 struct pair {
@@ -72,21 +72,34 @@ static struct numbers numbers_of(enum operation op, const struct table *t, struc
     return draw_numbers(op, t, &p->of[PLAIN], &p->seed);
 }
 
-/* A bit of a record or of the header, a wrong length, or a short sheet or out memory. */
+/* Word k of a table with another bit, with its then-edge flagged, or with its then-edge as its else-edge too. */
+static void damage_word(uint8_t *table, uint64_t k, uint64_t bit, int kind)
+{
+    uint64_t word;
+    memcpy(&word, table + 8 * k, 8);
+    word = __builtin_bswap64(word);
+    if (kind == 0) word ^= (uint64_t)1 << bit;
+    if (kind == 1) word |= (uint64_t)1 << 29;
+    if (kind == 2) word = (word & ~(uint64_t)0x1fffffff) | (word >> 29 & 0x1fffffff);
+    word = __builtin_bswap64(word);
+    memcpy(table + 8 * k, &word, 8);
+}
+
+/* Damage i of DAMAGED: a wrong length, a short sheet or out memory, the header, or a record. */
 static void damage(const struct table *t, struct pair *p, int i)
 {
-    uint64_t bit = next_random(&p->seed) % (8 * t->len), out = next_random(&p->seed) % (8 * ((size_t)t->count + 2));
-    if (i >= 20) bit %= 64;
+    uint64_t k = next_random(&p->seed) % t->count + 1, bit = next_random(&p->seed) % 64;
+    uint64_t out = next_random(&p->seed) % (8 * ((size_t)t->count + 2));
     for (int side = 0; side < SIDES; side++) {
         struct lent *m = &p->of[side];
-        if (i > 6) ((uint8_t *)m->table)[bit / 8] ^= 1 << bit % 8;
         if (i == 0) m->table_len = 0;
-        if (i == 1) m->table_len -= 8;
+        if (i == 1) m->table_len = 7;
         if (i == 2) m->table_len -= 3;
-        if (i == 3) m->sheet_len -= 1;
-        if (i == 4) m->out_len = out;
+        if (i == 3) m->table_len -= 8;
+        if (i == 4) m->sheet_len -= 1;
         if (i == 5) m->out_len = 7;
-        if (i == 6) m->table_len = 7;
+        if (i == 6) m->out_len = out;
+        if (i > 6) damage_word((uint8_t *)m->table, i < 12 ? 0 : k, bit, i < 18 ? 0 : i % 3);
     }
 }
 

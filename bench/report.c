@@ -25,10 +25,12 @@ static void print_machine(void)
 static void print_medians(const struct results *r)
 {
     printf("## Times\n\n"
-           "Medians in µs a call, ours and plain C by turns; ratio = ours / plain C. Warm: the same memory again and again.\n"
-           "Cleared: before each call sheet and out memory are zeroed, and they and the table are flushed from the caches.\n\n"
+           "Medians in µs a call, ours and plain C by turns; ratio = ours / plain C; part-write writes part %d of %d.\n"
+           "Warm: the same memory again and again. Cleared: before each call sheet and out memory are zeroed, and they\n"
+           "and the table are flushed from the caches.\n\n"
            "| table       |      N | operation  | ours warm | plain warm | ratio | ours cleared | plain cleared | ratio |\n"
-           "|-------------|-------:|------------|----------:|-----------:|------:|-------------:|--------------:|------:|\n");
+           "|-------------|-------:|------------|----------:|-----------:|------:|-------------:|--------------:|------:|\n",
+           PART, PARTS);
     for (int w = 0; w < WORKLOADS; w++)
         for (int op = 0; op < OPERATIONS; op++) {
             const double *a = r->micros[w][op][WARM], *c = r->micros[w][op][CLEARED];
