@@ -4,12 +4,11 @@
 
 #include "tables.h"
 
-/* Medians in microseconds: loading the table and counting, and counting alone. Ends the program with
- * a message if the count is not ours. */
-struct buddy {
-    double whole, satcount;
-};
+/* WHOLE: BuDDy loads the table and counts; SATCOUNT: it counts alone; BESIDE: our count, cleared. */
+enum buddy { WHOLE, SATCOUNT, BESIDE, BUDDY };
 
-struct buddy time_buddy(const struct table *t, double seconds);
+/* Medians of the three in microseconds, by turns, within about this many seconds. Ends the program with
+ * a message if BuDDy's count is not ours. */
+void time_buddy(const struct table *t, double seconds, double *micros);
 
 #endif

@@ -61,21 +61,21 @@ static void print_buddy(const struct results *r)
 {
     printf("## Count beside BuDDy\n\n"
            "The same diagram in BuDDy, in µs. Its whole job: loading from the table's bytes with bdd_ite, and bdd_satcount.\n"
-           "bdd_init and bdd_setvarnum are not timed; its tables are sized for it. Ours: count, cleared.\n\n"
+           "bdd_init and bdd_setvarnum are not timed; its tables are sized for it. Ours: count, cleared, by turns with BuDDy.\n"
+           "Of five passes this is the one that is best for BuDDy.\n\n"
            "| table       |    whole | satcount |   ours | whole / ours | satcount / ours |\n"
            "|-------------|---------:|---------:|-------:|-------------:|----------------:|\n");
     for (int w = 0; w < WORKLOADS; w++) {
-        const struct buddy *b = &r->buddy[w];
-        double ours = r->micros[w][COUNT][CLEARED][OURS];
-        printf("| %-11s | %8.1f | %8.1f | %6.1f | %12.1f | %15.1f |\n", r->table[w].name, b->whole, b->satcount, ours,
-               b->whole / ours, b->satcount / ours);
+        const double *b = r->buddy[w], ours = b[BESIDE];
+        printf("| %-11s | %8.1f | %8.1f | %6.1f | %12.1f | %15.1f |\n", r->table[w].name, b[WHOLE], b[SATCOUNT], ours,
+               b[WHOLE] / ours, b[SATCOUNT] / ours);
     }
     printf("\n");
 }
 
 static void print_bars(const struct results *r)
 {
-    double buddy = r->buddy[WIDE].whole / r->micros[WIDE][COUNT][CLEARED][OURS];
+    double buddy = r->buddy[WIDE][WHOLE] / r->buddy[WIDE][BESIDE];
     printf("## The bars, on the wide table\n\n"
            "| what                                         | bar    | measured | verdict |\n"
            "|----------------------------------------------|--------|---------:|---------|\n");

@@ -10,7 +10,7 @@ struct results {
     unsigned calls; /* compared with plain C */
     double micros[WORKLOADS][OPERATIONS][CONDITIONS][SIDES];
     double instructions[WORKLOADS][OPERATIONS][SIDES]; /* 0 if not counted */
-    struct buddy buddy[WORKLOADS];
+    double buddy[WORKLOADS][BUDDY];
 };
 
 void print_report(const struct results *r);

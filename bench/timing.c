@@ -46,9 +46,8 @@ static void clear(const struct lent *m)
     _mm_mfence();
 }
 
-/* One reading: the mean of `batch` calls, after one untimed call or a clearing. */
-static double reading(enum side side, enum operation op, enum condition c, const struct lent *m, const struct numbers *x,
-                      unsigned batch)
+double reading(enum side side, enum operation op, enum condition c, const struct lent *m, const struct numbers *x,
+               unsigned batch)
 {
     volatile uint64_t kept = 0;
     if (c == CLEARED) clear(m);

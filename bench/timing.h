@@ -12,6 +12,10 @@ enum condition { WARM, CLEARED, CONDITIONS };
 double now(void); /* seconds */
 double median(double *values, unsigned count);
 
+/* One reading in microseconds: the mean of `batch` calls, after one untimed call or a clearing. */
+double reading(enum side side, enum operation op, enum condition c, const struct lent *m, const struct numbers *x,
+               unsigned batch);
+
 /* Medians of both sides in microseconds a call, within about this many seconds. */
 void time_both(const struct table *t, enum operation op, enum condition c, double seconds, double *micros);
 
