@@ -9,7 +9,7 @@
 #include "report.h"
 
 #define POINTS 16
-#define PASSES 5           /* over everything that is timed: a figure is the median of its medians */
+#define PASSES 5           /* over everything that is timed */
 #define WIDE_SECONDS 0.3   /* a pass, for each operation and condition on the wide table */
 #define CELL_SECONDS 0.04  /* on the others */
 #define POINT_SECONDS 0.06 /* on a point of the plot */
@@ -60,13 +60,17 @@ static void time_points(struct point *points)
     }
 }
 
-/* The medians of PASSES rows of `count` figures, which stand one after another. */
-static void medians(const double *passes, unsigned count, double *out)
+/* For each pair of figures, ours and plain C, those of its quietest pass: the one in which they took least. The PASSES
+ * rows of `pairs` pairs stand one after another. */
+static void quietest(const double *passes, unsigned pairs, double *out)
 {
-    for (unsigned i = 0; i < count; i++) {
-        double values[PASSES];
-        for (int p = 0; p < PASSES; p++) values[p] = passes[p * count + i];
-        out[i] = median(values, PASSES);
+    for (unsigned i = 0; i < pairs; i++) {
+        const double *best = passes + SIDES * i;
+        for (unsigned p = 1; p < PASSES; p++) {
+            const double *pair = passes + SIDES * (p * pairs + i);
+            if (pair[OURS] + pair[PLAIN] < best[OURS] + best[PLAIN]) best = pair;
+        }
+        for (int side = 0; side < SIDES; side++) out[SIDES * i + side] = best[side];
     }
 }
 
@@ -88,9 +92,9 @@ static void time_all(struct results *r, struct point *points)
         time_points(points);
         for (int i = 0; i < POINTS * LINES; i++) lines[p][i] = points[i / LINES].micros[i % LINES];
     }
-    medians(&micros[0][0][0][0][0], WORKLOADS * OPERATIONS * CONDITIONS * SIDES, &r->micros[0][0][0][0]);
+    quietest(&micros[0][0][0][0][0], WORKLOADS * OPERATIONS * CONDITIONS, &r->micros[0][0][0][0]);
     for (int w = 0; w < WORKLOADS; w++) best_for_buddy(buddy, w, r->buddy[w]);
-    medians(&lines[0][0], POINTS * LINES, line);
+    quietest(&lines[0][0], POINTS * LINES / SIDES, line);
     for (int i = 0; i < POINTS * LINES; i++) points[i / LINES].micros[i % LINES] = line[i];
 }
 

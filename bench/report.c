@@ -25,7 +25,8 @@ static void print_machine(void)
 static void print_medians(const struct results *r)
 {
     printf("## Times\n\n"
-           "Medians in µs a call, ours and plain C by turns; ratio = ours / plain C; part-write writes part %d of %d.\n"
+           "Medians in µs a call, ours and plain C by turns, of the quietest of five passes; ratio = ours / plain C.\n"
+           "Part-write writes part %d of %d.\n"
            "Warm: the same memory again and again. Cleared: before each call sheet and out memory are zeroed, and they\n"
            "and the table are flushed from the caches.\n\n"
            "| table       |      N | operation  | ours warm | plain warm | ratio | ours cleared | plain cleared | ratio |\n"
