@@ -94,7 +94,9 @@ void print_report(const struct results *r)
 {
     printf("# The bench\n\n");
     print_machine();
-    printf("In %u calls ours and plain C gave the same answers and left the same bytes; BuDDy counts the same.\n\n", r->calls);
+    printf("In %u calls ours and plain C gave the same answers and left the same bytes, but for the places that part-write may\n"
+           "leave as it likes; BuDDy counts the same.\n\n",
+           r->calls);
     print_medians(r);
     print_instructions(r);
     print_buddy(r);
