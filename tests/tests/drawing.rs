@@ -27,7 +27,7 @@ fn rows(table: &Table) -> String {
 }
 
 fn edge(from: &str, to: Edge, style: &str) -> String {
-    let mark = if to.flag { ", arrowhead = odot" } else { "" };
+    let mark = if to.flag { ", arrowhead = dot" } else { "" };
     format!("  {from} -> v{} [style = {style}{mark}];\n", to.node)
 }
 

@@ -1,5 +1,5 @@
 // Draws a table of at most 4,096 bytes, read from standard input, as a graph for Graphviz: a row for each height that has
-// nodes, from the top. Then-edges are solid, else-edges dashed, and flagged edges end in a ring.
+// nodes, from the top. Then-edges are solid, else-edges dashed, and flagged (complemented) edges end in a dot.
 ghost use Prim.Native.Nat.{_+_, _*_, _≤_, _<_};
 ghost use lib.ListN.{length};
 ghost use Rattle.diagram.specs.Ordered.{HasDiagram};
@@ -70,7 +70,7 @@ fn say_edge(edge: Edge, style: &[u8]) {
     say(b" [style = ");
     say(style);
     if edge.flagged() {
-        say(b", arrowhead = odot");
+        say(b", arrowhead = dot");
     }
     say(b"];\n");
 }
