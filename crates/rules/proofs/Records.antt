@@ -1,5 +1,5 @@
 -- Rules 4 to 8 of a record, each where those before it passed, in the terms of the code. Assumes nothing.
-use Prim.Native.Nat.{ℕ, zero, suc, _+_, _-_, _%_, _≤_, _<_}
+use Prim.Native.Nat.{ℕ, zero, suc, _-_, _%_, _≤_, _<_}
 use mathlib.Core.Path.{_≡_, sym, _∙_}
 use mathlib.Core.Bool.{Bool, true, false, cond, _&&_, _||_}
 use native.Mathlib.Omega.{arith}
@@ -11,12 +11,6 @@ use Rattle.diagram.specs.Rules.{misled, checkRecord}
 use Rattle.diagram.specs.Reading.{HasFields, IsRecord}
 use Rattle.diagram.proofs.Fields.{fields-record}
 use Rattle.rules.specs.Inner.{previous}
-
--- the record that was just read comes before the next
-pub previous-next : (w : Words) (k : ℕ) → 0 < k → w k ≡ previous w (k + 1)
-previous-next w k p =
-    let e : k + 1 - 1 ≡ k = omega arith in
-    rw (lt-ltb 1 (k + 1) (omega arith), e)
 
 -- a record of some height is above 0, so the first one is above what comes before it
 above-nothing : (word before before′ k : ℕ) → 0 < k → 0 < word → before ≡ cond (ltb 1 k) before′ 0 → leb word before ≡ (ltb 1 k && leb word before′)

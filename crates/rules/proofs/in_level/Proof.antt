@@ -1,0 +1,19 @@
+-- `rules::in_level` meets its contract. Assumes nothing.
+use mathlib.Core.Path.{sym}
+use mathlib.Core.Bool.{true≢false}
+use borrow.Author.Needs.{needs}
+use Rattle.rules.proofs.Levels.{in-level}
+use Rattle.rules.proofs.in_level.Statement.{statement}
+use Rattle.rules.proofs.in_level.Tie as tie
+
+returns-5 : tie.Need-returns-5
+returns-5 c e =
+    let b = c .before .before in
+    in-level _ _ _ _ _ _ _ (b .before .before .before .before .before .of .ensures) (b .before .before .before .before .if1 .left) (b .before .before .before .if2 .left)
+    (b .before .if3 .left) _ (b .flagged .ensures) (c .before .if4 .left) e
+
+pub in-level-spec : {M : Type 1} → statement M
+in-level-spec =
+    tie.close
+    (tie.spec (λ c κs. search needs) (λ c e. absurd (true≢false (sym e))) (λ c e. absurd (true≢false (sym e))) (λ c e. absurd (true≢false (sym e)))
+    (λ c κs. search needs) (λ c e. absurd (true≢false (sym e))) returns-5)
