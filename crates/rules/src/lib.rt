@@ -225,14 +225,13 @@ fn skip_level(table: &[u8], nodes: usize, k: usize) -> usize
     let limit = end.word();
     let mut at = k;
     let mut before = words::word_at(table, k);
-    let mut word = diagram::word_after(table, k, nodes);
-    while at + 1 < nodes {
+    while at < nodes {
+        let word = words::word_at(table, at + 1);
         if !in_level(word, before, limit, low) {
             return at;
         }
         at += 1;
         before = word;
-        word = words::word_at(table, at + 1);
     }
     at
 }

@@ -1,4 +1,4 @@
--- `rules::skip_level` meets its contract. The loop's invariant: the records up to `at` pass if those up to k do, they ascend from k on, and the next one is at hand. Assumes nothing.
+-- `rules::skip_level` meets its contract. The loop's invariant: the records up to `at` pass if those up to k do, and they ascend from k on. Assumes nothing.
 use Prim.Native.Nat.{_+_, _-_, _≤_, _<_}
 use mathlib.Core.Path.{_≡_}
 use native.Mathlib.Omega.{arith}
@@ -13,11 +13,11 @@ use Rattle.rules.proofs.skip_level.Statement.{statement}
 use Rattle.rules.proofs.skip_level.Tie as tie
 
 abbrev Inv-loop : tie.InvT-loop
-Inv-loop table nodes k h low limit at₀ before₀ word₀ at before word =
-    (k ≤ at) × (at ≤ nodes) × (wordAt table k ≤ before) × (before ≡ wordAt table at) × (at < nodes → word ≡ wordAt table (at + 1)) × PassFrom (wordAt table) k at
+Inv-loop table nodes k h low limit at₀ before₀ at before =
+    (k ≤ at) × (at ≤ nodes) × (wordAt table k ≤ before) × (before ≡ wordAt table at) × PassFrom (wordAt table) k at
 
 abbrev μ-loop : tie.MeasureT-loop
-μ-loop table nodes k h low limit at₀ before₀ word₀ at before word = nodes - at
+μ-loop table nodes k h low limit at₀ before₀ at before = nodes - at
 
 returns : tie.Need-returns Inv-loop μ-loop
 returns c = (le-refl _, c .before .before .pre .1, λ n e. e)
@@ -31,36 +31,35 @@ word-requires c κs = (c .before .before .before .height-at .ensures .1, omega (
 
 loop-holds : tie.Need-loop-holds Inv-loop μ-loop
 loop-holds c =
-    let p = c .before .before .before .before .before .before .before .before .before .pre in
-    (le-refl _, p .1, omega (arith, c .before .word-at .ensures), c .before .word-at .ensures, c .word-after .ensures, λ n e. e)
+    let p = c .before .before .before .before .before .before .before .before .pre in
+    (le-refl _, p .1, omega (arith, c .word-at .ensures), c .word-at .ensures, λ n e. e)
 
 returns-3 : tie.Need-returns-3 Inv-loop μ-loop
-returns-3 c = let i = c .before .before .before .loop .inv in (i .0, i .1, i .5)
+returns-3 c = let i = c .before .before .before .before .loop .inv in (i .0, i .1, i .4)
 
 loop-again : tie.Need-loop-again Inv-loop μ-loop
 loop-again c =
     let g = c .before .before .before .before in
-    let v = g .before .before .before in
+    let v = g .before .before in
     let b = v .before .before in
     let a = b .before .before .before .before .before in
     let i = g .loop .inv in
     let l = c .before .before .before .loop-test .taken in
-    let word-is = i .4 (omega arith) in
-    let f = c .before .before .in-level .ensures (not-false _ (c .before .if3 .left)) in (
+    let word-is = c .before .before .word-at2 .ensures in
+    let f = c .before .in-level .ensures (not-false _ (c .if3 .left)) in (
       omega arith,
       omega arith,
       omega (arith, f .ascends),
       word-is,
-      λ _. c .word-at2 .ensures,
       pass-next (wordAt (a .args .table .now)) _ _ _ _ _ _ _ _ (a .pre .0) (b .before .before .before .if1 .left) (b .before .before .height-at .ensures .0) (b .before .height-at2 .ensures .0) (b .if2 .left)
-          (v .before .new .ensures) (v .word .ensures) (i .0) (i .2) (i .3) word-is f (i .5),
+          (v .before .new .ensures) (v .word .ensures) (i .0) (i .2) (i .3) word-is f (i .4),
     )
 
 returns-4 : tie.Need-returns-4 Inv-loop μ-loop
-returns-4 c = let i = c .before .loop .inv in (i .0, i .1, i .5)
+returns-4 c = let i = c .before .loop .inv in (i .0, i .1, i .4)
 
 pub skip-level-spec : {M : Type 1} → statement M
 skip-level-spec =
     tie.close
     (tie.spec Inv-loop μ-loop returns (λ c κs. search needs) (λ c. search needs) (λ c κs. search needs) returns-2 (λ c κs. search needs) word-requires
-    (λ c κs. search needs) (λ c κs. search needs) loop-holds (λ c. search needs) (λ c κs. search needs) returns-3 (λ c. search needs) (λ c. search needs) (λ c κs. search needs) (λ c. search needs) loop-again returns-4)
+    (λ c κs. search needs) loop-holds (λ c. search needs) (λ c κs. search needs) (λ c κs. search needs) returns-3 (λ c. search needs) (λ c. search needs) loop-again returns-4)
