@@ -9,7 +9,7 @@ use lib.Dec.{eqb}
 use lib.ListN.{length}
 use borrow.Author.Tests.{eq-eqb, ne-eqb}
 use Rattle.words.specs.Words.{wordAt, wordsOver}
-use Rattle.words.proofs.Laws.{over-over, length-wordsOver}
+use Rattle.words.proofs.Laws.{length-wordsOver}
 use Rattle.diagram.specs.Format.{Words, nodes}
 use Rattle.diagram.specs.Count.{place}
 use Rattle.diagram.specs.Answer.{Answer, value, refusal, andThen}
@@ -21,6 +21,7 @@ use Rattle.rules.specs.declared.Refusal.{Refusal}
 use Rattle.rules.specs.declared.Verdict.{Verdict}
 use Rattle.rules.specs.declared.Verdict.the-variants.{Passed, Refused}
 use Rattle.rules.specs.Refusals.{numberOf, placeOf, verdictAs}
+use Rattle.counting.specs.Inner.{settled}
 use Rattle.checking.specs.Operations.{checking, checkingFor, sheetBy, sheetAfter, sheetAfterFor}
 
 -- a refusal other than 9 leaves the sheet as it was
@@ -28,7 +29,13 @@ sheet-kept : {A : Type 0} (w : Words) (N : ℕ) (a : Answer A) (number k : ℕ) 
 unfolding sheetBy
 sheet-kept w N a number k s h e = rw e (rw (ne-eqb number 9 h))
 
--- rules 4 to 9: the verdict v on the records, and u on their names
+-- rule 9 leaves the sheet as it is to be
+sheet-settled : (w : Words) (N : ℕ) (a : Answer (Unit {0})) (s : List ℕ) → a ≡ checkNames w N → settled w N a s ≡ sheetBy w N a s
+unfolding settled sheetBy
+sheet-settled w N (value v) s e = refl
+sheet-settled w N (refusal number k) s e = rw (eq-eqb number 9 (names-refuse w N number k (sym e) .0))
+
+-- rules 4 to 9: the verdict v on the records, and the answer a on their names
 module _ (w : Words) (n N : ℕ) (s : List ℕ) (v : Verdict) (v-is : verdictAs v ≡ checkRecords w n N) where
   pub records-refused : (r : Refusal) → v ≡ Refused r → (verdictAs v ≡ checkDiagram w n N) × (s ≡ sheetBy w N (verdictAs v) s)
   unfolding checkDiagram andThen
@@ -36,21 +43,9 @@ module _ (w : Words) (n N : ℕ) (s : List ℕ) (v : Verdict) (v-is : verdictAs 
       let e : checkRecords w n N ≡ refusal (numberOf r) (placeOf r) = sym v-is ∙ ap verdictAs q in
       (ap verdictAs q ∙ sym (ap (λ a. andThen a (λ _. checkNames w N)) e), sheet-kept w N (verdictAs v) (numberOf r) (placeOf r) s (records-refuse w n N (numberOf r) (placeOf r) e .0) (v-is ∙ e))
 
-  module _ (passed : v ≡ Passed) (u : Verdict) (u-is : verdictAs u ≡ checkNames w N) (counted : List ℕ) (counted-is : counted ≡ wordsOver (place w) (N + 1) s) where
-    names-last : verdictAs u ≡ checkDiagram w n N
-    unfolding checkDiagram andThen
-    names-last = u-is ∙ sym (ap (λ a. andThen a (λ _. checkNames w N)) (sym v-is ∙ ap verdictAs passed))
-
-    pub names-refused : (out : List ℕ) (r : Refusal) → u ≡ Refused r → out ≡ wordsOver (λ _. 0) (N + 1) counted → (verdictAs u ≡ checkDiagram w n N) × (out ≡ sheetBy w N (verdictAs u) s)
-    unfolding sheetBy
-    names-refused out r q e =
-        let o = names-refuse w N (numberOf r) (placeOf r) (sym u-is ∙ ap verdictAs q) .0 in
-        let z : out ≡ wordsOver (λ _. 0) (N + 1) s = e ∙ ap (wordsOver (λ _. 0) (N + 1)) counted-is ∙ over-over (λ _. 0) (place w) (N + 1) (N + 1) s (omega arith) in
-        (names-last, z ∙ rw q (rw (eq-eqb (numberOf r) 9 o)))
-
-    pub names-passed : u ≡ Passed → (verdictAs u ≡ checkDiagram w n N) × (counted ≡ sheetBy w N (verdictAs u) s)
-    unfolding sheetBy
-    names-passed q = (names-last, counted-is ∙ rw q)
+  pub names-checked : v ≡ Passed → (a : Answer (Unit {0})) → a ≡ checkNames w N → (out : List ℕ) → out ≡ settled w N a s → (a ≡ checkDiagram w n N) × (out ≡ sheetBy w N a s)
+  unfolding checkDiagram andThen
+  names-checked passed a a-is out e = (a-is ∙ sym (ap (λ b. andThen b (λ _. checkNames w N)) (sym v-is ∙ ap verdictAs passed)), e ∙ sheet-settled w N a s a-is)
 
 -- all rules, where `need N` places are needed: the verdict v on the header, then u on the diagram
 module _ (need : ℕ → ℕ) (t s : List ℕ) (v : Verdict) (v-is : verdictAs v ≡ checkHeader t (length s / 8) need) where

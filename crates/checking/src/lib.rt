@@ -50,12 +50,7 @@ fn check_diagram(table: &[u8], sheet: &mut [u8], n: u64, nodes: usize) -> Verdic
     let Verdict::Passed = records else {
         return records;
     };
-    let names = counting::check_names(table, sheet, n, nodes);
-    let Verdict::Passed = names else {
-        counting::blank(sheet, nodes + 1);
-        return names;
-    };
-    names
+    counting::check_names(table, sheet, n, nodes)
 }
 
 // Checks a table where each × N + more places of the sheet are needed: its n and N, or its refusal.

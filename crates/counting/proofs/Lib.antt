@@ -1,6 +1,6 @@
 -- The laws of counting and marking, in the terms of the code.
 pub mod Places
 pub mod Under
-pub mod Nodes
+pub mod Shares
 pub mod Filling
 pub mod Marks

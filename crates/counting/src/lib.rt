@@ -1,15 +1,15 @@
-// Filling the sheet: the counts of the nodes, upward, with rule 9 in the same pass; and zeros.
+// Filling the sheet: the shares of the nodes, upward; then their counts, with rule 9 in the same pass; and zeros.
 ghost use mathlib.Core.Path.{_≡_};
 ghost use Prim.Native.Nat.{_+_, _-_, _*_, _/_, _%_, _≤_, _<_, _^_};
 ghost use lib.ListN.{length, set};
 ghost use Rattle.words.specs.Words.{wordAt, putWord, wordsOver};
 ghost use Rattle.diagram.specs.Meaning.{under};
-ghost use Rattle.diagram.specs.Count.{countBelow, place};
+ghost use Rattle.diagram.specs.Count.{countBelow};
 ghost use Rattle.diagram.specs.Rules.{checkNames};
-ghost use Rattle.diagram.specs.Ordered.{HasDiagram};
-ghost use Rattle.diagram.specs.Reading.{IsRecord, edgeCount};
+ghost use Rattle.diagram.specs.Ordered.{Reduced, HasDiagram};
+ghost use Rattle.diagram.specs.Reading.{Within, opposite, edgeCount};
 ghost use Rattle.rules.specs.Refusals.{verdictAs};
-ghost use Rattle.counting.specs.Inner.{Ready, Opens, Marked, checkMarks};
+ghost use Rattle.counting.specs.Inner.{Opens, share, HoldsShares, Sharing, Marked, checkMarks, settled};
 use diagram::Edge;
 use diagram::Node;
 use diagram::Record;
@@ -37,16 +37,16 @@ pub fn count_under(table: &[u8], sheet: &[u8], e: Edge, h: u64) -> u64
     count_edge(sheet, e, g, h)
 }
 
-// The count of node k, by the fields of its record and the places of the nodes below it.
-fn count_node(table: &[u8], sheet: &[u8], k: Node, fields: Record) -> u64
-    requires { ⌜ (0 < k .0) × Ready (now table) (now sheet) (k .0)
-        × IsRecord (wordAt (now table)) (k .0) (fields .height) (fields .high .value) (fields .low .value) ⌝ }
-    ensures { λ r. ⌜ (r ≡ place (wordAt (now (table .entry))) (k .0)) × (r < 18446744073709551616) ⌝ }
+// The share of edge e, by the share of its node.
+fn share_of(sheet: &[u8], e: Edge) -> u64
+    requires { ⌜ (8 * (e .value / 2) + 8 ≤ length (now sheet)) × (wordAt (now sheet) (e .value / 2) ≤ 2 ^ 63) ⌝ }
+    ensures { λ r. ⌜ r ≡ opposite (e .value % 2) (2 ^ 63) (wordAt (now (sheet .entry)) (e .value / 2)) ⌝ }
 {
-    let a = diagram::height_at(table, fields.high.node());
-    let b = diagram::height_at(table, fields.low.node());
-    let h = fields.height - 1;
-    count_edge(sheet, fields.high, a, h) + count_edge(sheet, fields.low, b, h)
+    let s = words::word_at(sheet, e.node().0);
+    if e.flagged() {
+        return (1 << 63) - s;
+    }
+    s
 }
 
 // Marks the nodes that a record of these fields names.
@@ -60,34 +60,38 @@ fn mark_named(marks: &mut [u8], fields: Record)
     marks[b] = 1;
 }
 
-// Fills place k with the count of node k, and marks the nodes that its record names.
+// Fills place k with the share of node k, and marks the nodes that its record names.
 fn enter_node(table: &[u8], sheet: &mut [u8], marks: &mut [u8], k: Node, word: u64)
-    requires { ⌜ (0 < k .0) × Ready (now table) (now sheet) (k .0) × (word ≡ wordAt (now table) (k .0))
+    requires { ⌜ (0 < k .0) × Sharing (now table) (now sheet) (k .0) × (word ≡ wordAt (now table) (k .0))
         × (k .0 < length (now marks)) × Marked (now marks) (k .0 - 1) (wordAt (now table)) ⌝ }
-    ensures { λ _. ⌜ (now (sheet .exit) ≡ putWord (now (sheet .entry)) (k .0) (place (wordAt (now (table .entry))) (k .0)))
+    ensures { λ _. ⌜ (now (sheet .exit) ≡ putWord (now (sheet .entry)) (k .0) (share (wordAt (now (table .entry))) (k .0)))
         × (length (now (marks .exit)) ≡ length (now (marks .entry))) × Marked (now (marks .exit)) (k .0) (wordAt (now (table .entry))) ⌝ }
 {
     let fields = Record::of(word);
     mark_named(marks, fields);
-    let c = count_node(table, sheet, k, fields);
-    words::put_word(sheet, k.0, c);
+    let s = words::word_at(sheet, fields.high.node().0) / 2 + share_of(sheet, fields.low) / 2;
+    words::put_word(sheet, k.0, s);
 }
 
-// Fills places 0 to N with the counts, and marks the nodes that a record names.
+// Fills places 0 to N with the shares, and marks the nodes that a record names. (A record is read a turn ahead: it is then one load.)
 fn count_nodes(table: &[u8], sheet: &mut [u8], marks: &mut [u8], n: u64, nodes: usize)
-    requires { ⌜ HasDiagram (now table) n nodes × (8 * nodes + 8 ≤ length (now sheet)) × (nodes < length (now marks)) × Marked (now marks) 0 (wordAt (now table)) ⌝ }
-    ensures { λ _. ⌜ (now (sheet .exit) ≡ wordsOver (place (wordAt (now (table .entry)))) (nodes + 1) (now (sheet .entry)))
+    requires { ⌜ HasDiagram (now table) n nodes × Reduced (wordAt (now table)) n nodes × (8 * nodes + 8 ≤ length (now sheet))
+        × (nodes < length (now marks)) × Marked (now marks) 0 (wordAt (now table)) ⌝ }
+    ensures { λ _. ⌜ (now (sheet .exit) ≡ wordsOver (share (wordAt (now (table .entry)))) (nodes + 1) (now (sheet .entry)))
         × (length (now (marks .exit)) ≡ length (now (marks .entry))) × Marked (now (marks .exit)) nodes (wordAt (now (table .entry))) ⌝ }
 {
-    words::put_word(sheet, 0, 1);
-    let mut word = diagram::word_after(table, 0, nodes);
-    let mut k = 0;
-    while k < nodes {
-        k += 1;
-        let this = word;
-        word = diagram::word_after(table, k, nodes);
-        enter_node(table, sheet, marks, Node(k), this);
+    words::put_word(sheet, 0, 1 << 63);
+    if nodes == 0 {
+        return;
     }
+    let mut k = 1;
+    let mut word = words::word_at(table, 1);
+    while k < nodes {
+        enter_node(table, sheet, marks, Node(k), word);
+        k += 1;
+        word = words::word_at(table, k);
+    }
+    enter_node(table, sheet, marks, Node(k), word);
 }
 
 // Fills places 0 to p - 1 with zero.
@@ -102,36 +106,44 @@ pub fn blank(sheet: &mut [u8], p: usize)
     }
 }
 
-// Rule 9 by the marks: the lowest node from 1 to `end` - 1 without one.
-fn check_marks(marks: &[u8], end: usize) -> Verdict
-    requires { ⌜ end ≤ length (now marks) ⌝ }
-    ensures { λ r. ⌜ verdictAs r ≡ checkMarks (now (marks .entry)) end ⌝ }
+// Rule 9 by the marks, of nodes 1 to `last`: the shares become the counts, or zeros if it refuses.
+fn settle(table: &[u8], sheet: &mut [u8], marks: &[u8], last: usize) -> Verdict
+    requires { ⌜ Within (now table) last × (8 * last + 8 ≤ length (now sheet)) × HoldsShares (wordAt (now sheet)) (last + 1) (wordAt (now table)) × (last < length (now marks)) ⌝ }
+    ensures { λ r. ⌜ (verdictAs r ≡ checkMarks (now (marks .entry)) last)
+        × (now (sheet .exit) ≡ settled (wordAt (now (table .entry))) last (verdictAs r) (now (sheet .entry))) ⌝ }
 {
-    let mut k = 1;
-    while k < end {
+    words::put_word(sheet, 0, 1);
+    let mut k = 0;
+    while k < last {
+        k += 1;
+        let h = diagram::height_at(table, Node(k));
+        let s = words::word_at(sheet, k);
+        words::put_word(sheet, k, s >> (63 - h));
         if marks[k] == 0 {
+            blank(sheet, last + 1);
             return Verdict::Refused(Refusal::Unnamed(Node(k)));
         }
-        k += 1;
     }
     Verdict::Passed
 }
 
-// Fills places 0 to N with the counts, and checks rule 9 by marks that are clear.
+// Checks rule 9 by marks that are clear, and fills places 0 to N with the counts, or zeros if it refuses. (The last node needs no name.)
 fn count_named(table: &[u8], sheet: &mut [u8], marks: &mut [u8], n: u64, nodes: usize) -> Verdict
-    requires { ⌜ HasDiagram (now table) n nodes × (8 * nodes + 8 ≤ length (now sheet)) × (nodes < length (now marks)) × Marked (now marks) 0 (wordAt (now table)) ⌝ }
+    requires { ⌜ HasDiagram (now table) n nodes × Reduced (wordAt (now table)) n nodes × (8 * nodes + 8 ≤ length (now sheet))
+        × (nodes < length (now marks)) × Marked (now marks) 0 (wordAt (now table)) ⌝ }
     ensures { λ r. ⌜ (verdictAs r ≡ checkNames (wordAt (now (table .entry))) nodes)
-        × (now (sheet .exit) ≡ wordsOver (place (wordAt (now (table .entry)))) (nodes + 1) (now (sheet .entry))) ⌝ }
+        × (now (sheet .exit) ≡ settled (wordAt (now (table .entry))) nodes (verdictAs r) (now (sheet .entry))) ⌝ }
 {
     count_nodes(table, sheet, marks, n, nodes);
-    check_marks(marks, nodes)
+    marks[nodes] = 1;
+    settle(table, sheet, marks, nodes)
 }
 
 // The same with marks on the stack, of which small tables clear fewer.
 pub fn check_names(table: &[u8], sheet: &mut [u8], n: u64, nodes: usize) -> Verdict
-    requires { ⌜ HasDiagram (now table) n nodes × (8 * nodes + 8 ≤ length (now sheet)) ⌝ }
+    requires { ⌜ HasDiagram (now table) n nodes × Reduced (wordAt (now table)) n nodes × (8 * nodes + 8 ≤ length (now sheet)) ⌝ }
     ensures { λ r. ⌜ (verdictAs r ≡ checkNames (wordAt (now (table .entry))) nodes)
-        × (now (sheet .exit) ≡ wordsOver (place (wordAt (now (table .entry)))) (nodes + 1) (now (sheet .entry))) ⌝ }
+        × (now (sheet .exit) ≡ settled (wordAt (now (table .entry))) nodes (verdictAs r) (now (sheet .entry))) ⌝ }
 {
     if nodes < 1024 {
         let mut marks = [0u8; 1024];

@@ -3,7 +3,7 @@ use mathlib.Core.Path.{sym, ap, _∙_}
 use borrow.Author.Needs.{needs}
 use Rattle.rules.specs.Refusals.{verdictAs}
 use Rattle.diagram.proofs.Accept.{records-reduced}
-use Rattle.checking.proofs.Compose.{records-refused, names-refused, names-passed}
+use Rattle.checking.proofs.Compose.{records-refused, names-checked}
 use Rattle.checking.proofs.check_diagram.Statement.{statement}
 use Rattle.checking.proofs.check_diagram.Tie as tie
 
@@ -13,21 +13,15 @@ returns c = records-refused _ _ _ _ _ (c .before .before .check-records .ensures
 check-names-requires : tie.Need-check-names-requires
 check-names-requires c κs =
     let a = c .before .before .before .before .before .before in
-    (record { long = a .pre .0; few = a .pre .2; few-settings = a .pre .3; ordered = records-reduced _ _ _ (sym (c .before .before .before .check-records .ensures) ∙ ap verdictAs (c .before .enum-told .given .1)) .ordered }, a .pre .1)
+    let R = records-reduced _ _ _ (sym (c .before .before .before .check-records .ensures) ∙ ap verdictAs (c .before .enum-told .given .1)) in
+    (record { long = a .pre .0; few = a .pre .2; few-settings = a .pre .3; ordered = R .ordered }, R, a .pre .1)
 
 returns-2 : tie.Need-returns-2
 returns-2 c =
-    let d = c .before .before .before .before .before .before .before .before in
-    let e = c .before .before .before .before .before .before .before .before .before .before .before .before in
-    names-refused _ _ _ _ _ (e .check-records .ensures) (c .before .before .before .before .before .before .before .before .before .before .enum-told .given .1) _ (d .check-names .ensures .0) _ (d .check-names .ensures .1) _ _ (c .before .before .before .before .enum-told4 .given .1) (c .before .before .blank .ensures)
-
-returns-3 : tie.Need-returns-3
-returns-3 c =
-    let d = c .before .before .before .before in
-    names-passed _ _ _ _ _ (c .before .before .before .before .before .before .before .before .check-records .ensures) (c .before .before .before .before .before .before .enum-told .given .1) _ (d .check-names .ensures .0) _ (d .check-names .ensures .1) (c .enum-told3 .given .1)
+    let d = c .before .before .check-names .ensures in
+    names-checked _ _ _ _ _ (c .before .before .before .before .before .before .check-records .ensures) (c .before .before .before .before .enum-told .given .1) _ (d .0) _ (d .1)
 
 pub check-diagram-spec : {M : Type 1} → statement M
 check-diagram-spec =
     tie.close
-    (tie.spec (λ c κs. search needs) (λ c. search needs) (λ c. search needs) returns check-names-requires (λ c. search needs) (λ c. search needs)
-    (λ c. search needs) (λ c κs. search needs) (λ c. search needs) returns-2 (λ c. search needs) returns-3)
+    (tie.spec (λ c κs. search needs) (λ c. search needs) (λ c. search needs) returns check-names-requires (λ c. search needs) returns-2)
