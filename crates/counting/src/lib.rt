@@ -61,19 +61,18 @@ fn mark_named(marks: &mut [u8], fields: Record)
 }
 
 // Fills place k with the share of node k, and marks the nodes that its record names.
-fn enter_node(table: &[u8], sheet: &mut [u8], marks: &mut [u8], k: Node, word: u64)
-    requires { ⌜ (0 < k .0) × Sharing (now table) (now sheet) (k .0) × (word ≡ wordAt (now table) (k .0))
-        × (k .0 < length (now marks)) × Marked (now marks) (k .0 - 1) (wordAt (now table)) ⌝ }
+fn enter_node(table: &[u8], sheet: &mut [u8], marks: &mut [u8], k: Node)
+    requires { ⌜ (0 < k .0) × Sharing (now table) (now sheet) (k .0) × (k .0 < length (now marks)) × Marked (now marks) (k .0 - 1) (wordAt (now table)) ⌝ }
     ensures { λ _. ⌜ (now (sheet .exit) ≡ putWord (now (sheet .entry)) (k .0) (share (wordAt (now (table .entry))) (k .0)))
         × (length (now (marks .exit)) ≡ length (now (marks .entry))) × Marked (now (marks .exit)) (k .0) (wordAt (now (table .entry))) ⌝ }
 {
-    let fields = Record::of(word);
+    let fields = diagram::record_at(table, k);
     mark_named(marks, fields);
     let s = words::word_at(sheet, fields.high.node().0) / 2 + share_of(sheet, fields.low) / 2;
     words::put_word(sheet, k.0, s);
 }
 
-// Fills places 0 to N with the shares, and marks the nodes that a record names. (A record is read a turn ahead: it is then one load.)
+// Fills places 0 to N with the shares, and marks the nodes that a record names.
 fn count_nodes(table: &[u8], sheet: &mut [u8], marks: &mut [u8], n: u64, nodes: usize)
     requires { ⌜ HasDiagram (now table) n nodes × Reduced (wordAt (now table)) n nodes × (8 * nodes + 8 ≤ length (now sheet))
         × (nodes < length (now marks)) × Marked (now marks) 0 (wordAt (now table)) ⌝ }
@@ -81,17 +80,11 @@ fn count_nodes(table: &[u8], sheet: &mut [u8], marks: &mut [u8], n: u64, nodes: 
         × (length (now (marks .exit)) ≡ length (now (marks .entry))) × Marked (now (marks .exit)) nodes (wordAt (now (table .entry))) ⌝ }
 {
     words::put_word(sheet, 0, 1 << 63);
-    if nodes == 0 {
-        return;
-    }
-    let mut k = 1;
-    let mut word = words::word_at(table, 1);
+    let mut k = 0;
     while k < nodes {
-        enter_node(table, sheet, marks, Node(k), word);
         k += 1;
-        word = words::word_at(table, k);
+        enter_node(table, sheet, marks, Node(k));
     }
-    enter_node(table, sheet, marks, Node(k), word);
 }
 
 // Fills places 0 to p - 1 with zero.
