@@ -8,9 +8,10 @@ use native.Mathlib.Omega.{arith}
 use native.Mathlib.Nat.{le-refl}
 use lib.ListN.{length}
 use Rattle.words.specs.Words.{wordAt}
+use Rattle.words.proofs.Cases.{less, same, more, tri}
 use Rattle.diagram.specs.Format.{Words, highField}
 use Rattle.diagram.proofs.Paths.{height-le-settings}
-use Rattle.numbering.specs.Numbered.{Marks, Alike, AllNumbered}
+use Rattle.numbering.specs.Numbered.{Marks, KeepsOrder, Alike, AllNumbered}
 use Rattle.numbering.proofs.Finish.{start, all-numbered, alike-same, alike-trans}
 use Rattle.cutting.specs.Cut.{TwiceCut}
 use Rattle.merging.specs.Inner.{front, Done, in-table, in-cut, Merging, Limits, Reached, Passed}
@@ -61,10 +62,10 @@ end-limits R W n N p q r limit e l b i = absurd (omega (arith, same-front q r e 
 module _ (R : Words) (map map₁ : List ℕ) (n N q r c last p : ℕ) (X : TwiceCut R n N) (settings : n ≤ 63) (nodes : N ≤ 65535) (e : r ≡ q) (l : n < q) where
   -- no new record is above the greatest word, so the table is numbered too
   pub finished : (p₀ p₁ : ℕ) (map₀ : List ℕ) → Reached R map map₀ n N p₀ c last p q r → (c₁ last₁ : ℕ) → Passed R map₀ map₁ n N 18446744073709551615 p q r c₁ last₁ p₁
-      → AllNumbered R (wordAt map₁) (N + n + n) c₁ × Alike (wordAt map) (wordAt map₁) × (c₁ ≤ N + n + n) × (length map₁ ≡ length map)
+      → AllNumbered R (wordAt map₁) (N + n + n) c₁ × KeepsOrder (wordAt map₁) (N + 1) × Alike (wordAt map) (wordAt map₁) × (c₁ ≤ N + n + n) × (length map₁ ≡ length map)
   finished p₀ p₁ map₀ A c₁ last₁ P =
       let t = reached-trans A (P .passing .reached) in
-      (all-numbered R (wordAt map₁) (N + n + n) c₁ last₁ (Done N n p₁ q r) (G .going) all, t .alike, few, t .same-length)
+      (all-numbered R (wordAt map₁) (N + n + n) c₁ last₁ (Done N n p₁ q r) (G .going) all, rw end at (G .kept), t .alike, few, t .same-length)
     where
       G : Merging R (wordAt map₁) n N c₁ last₁ p₁ q r
       G = P .passing .reached .merging
@@ -77,6 +78,9 @@ module _ (R : Words) (map map₁ : List ℕ) (n N q r c last p : ℕ) (X : Twice
           let h = high R (wordAt map₁) n N c₁ last₁ p₁ q r X G (omega (arith, few)) p₁ (G .fronts .p-low) (omega arith) in
           let i = height-le-settings R n (N + n + n) (X .ordered) p₁ (omega arith) in
           unfold highField in omega (arith, P .above m .1)
+
+      end : p₁ ≡ N + 1
+      end = let h = G .fronts .p-high in elim (tri p₁ (N + 1)) [ less l ↦ absurd (behind (omega arith)) | same e ↦ e | more l ↦ absurd (omega arith) ]
 
       no : (v : ℕ) → Left N n p₁ q r v → ⊥
       no v (left-table i j) = behind (omega arith)

@@ -9,16 +9,17 @@ use native.Mathlib.Nat.{le-refl}
 use lib.ListN.{length}
 use Rattle.words.specs.Words.{wordAt}
 use Rattle.words.proofs.Cases.{less, same, more, tri}
-use Rattle.diagram.specs.Format.{Words, highField, thenEdge, elseEdge}
+use Rattle.diagram.specs.Format.{Words, highField, middleField, lowField, thenEdge, elseEdge}
 use Rattle.diagram.proofs.Paths.{side}
-use Rattle.numbering.specs.Renewal.{renew, IsKey, Gave}
+use Rattle.numbering.specs.Renewal.{renew, Renewable, StaysPlain, IsKey, Gave}
 use Rattle.numbering.proofs.Images.{renew-as}
+use Rattle.numbering.proofs.Keys.{keyed-readable}
 use Rattle.numbering.proofs.Finish.{alike-same, alike-trans}
-use Rattle.numbering.proofs.Given.{Placed, placed-alike, placed-other, gave-length, gave-placed}
+use Rattle.numbering.proofs.Given.{Placed, left-out, placed-alike, placed-other, gave-length, gave-placed}
 use Rattle.cutting.specs.Cut.{TwiceCut}
 use Rattle.merging.specs.Inner.{cutNode, front, Done, Merging, Beyond, higher, level, Limits, Passing, Passed}
 use Rattle.merging.proofs.Lists.{cut-inside, cut-level}
-use Rattle.merging.proofs.Merge.{few-records, high}
+use Rattle.merging.proofs.Merge.{Plain, few-records, merging-keyed, high, front-plain}
 use Rattle.merging.proofs.Least.{Chosen}
 use Rattle.merging.proofs.StepTable.{table-adds, step-table}
 
@@ -29,10 +30,6 @@ turn-first R map n N limit q r c last p G L = record {
   others = λ v o. refl;
   limits = L;
 }
-
--- a key says whether its node is kept
-key-live : (W : Words) (v z word flag : ℕ) → IsKey W v z word flag → 0 < word → (0 < W v) × (word ≡ renew W z)
-key-live W v z word flag K l = elim (tri 0 (W v)) [ less k ↦ (k, K .word-is k) | same k ↦ absurd (omega (arith, K .dead (sym k))) | more k ↦ absurd (omega arith) ]
 
 -- the new record of a cut's next node is not below a limit
 module _ (R W : Words) (n N c last p q r : ℕ) (X : TwiceCut R n N) (G : Merging R W n N c last p q r) (few : c < 268435454) (b : Bool) (l : front q r b ≤ n) (limit : ℕ) where
@@ -66,9 +63,9 @@ module _ (R W : Words) (n N c last p q r : ℕ) (X : TwiceCut R n N) (G : Mergin
       stays true = still (thenEdge R v / 2) d
       stays false = still (elseEdge R v / 2) e
 
--- a turn: node p, of record z, becomes `word`
-module _ (R : Words) (map₀ map : List ℕ) (n N limit p₀ q r c last p z word flag : ℕ) (X : TwiceCut R n N) (T : Passing R map₀ map n N limit p₀ q r c last p)
-    (settings : n ≤ 63) (nodes : N ≤ 65535) (l : p ≤ N) (z-is : z ≡ R p) (key : IsKey (wordAt map) p z word flag) where
+-- a turn: node p is the next one
+module _ (R : Words) (map₀ map : List ℕ) (n N limit p₀ q r c last p : ℕ) (X : TwiceCut R n N) (T : Passing R map₀ map n N limit p₀ q r c last p)
+    (settings : n ≤ 63) (nodes : N ≤ 65535) (l : p ≤ N) where
   abbrev W : Words
   W = wordAt map
 
@@ -78,37 +75,62 @@ module _ (R : Words) (map₀ map : List ℕ) (n N limit p₀ q r c last p z word
   few : c < 268435454
   few = omega (arith, few-records R W n N c last p q r X G)
 
-  K : IsKey W p (R p) word flag
-  K = subst (λ (a : ℕ). IsKey W p a word flag) z-is key
-
-  -- above the limit: the table's nodes that are not are numbered
-  pub turn-last : limit < word → Passed R map₀ map n N limit p₀ q r c last p
-  turn-last m = let k = key-live W p (R p) word flag K (omega arith) in record { passing = T; above = λ i. (k .0, omega (arith, k .1)) }
-
   -- not above the limit: it may come next
-  chosen : word ≤ limit → 0 < W p → Chosen R W n N p q r p
+  chosen : renew W (R p) ≤ limit → 0 < W p → Chosen R W n N p q r p
   chosen m k = record {
     by-table = λ i. (k, le-refl (renew W (R p)));
     by-cut = λ b i. let t = beyond-limit R W n N c last p q r X G few b i limit (T .limits b i) in
         let h = high R W n N c last p q r X G few p (G .fronts .p-low) (omega arith) in
-        let w = K .word-is k in
         (unfold highField in omega (arith, t .0), λ o. omega (arith, t .1 o));
   }
 
-  -- it gets its place
-  pub turn-next : (map′ : List ℕ) (c′ last′ : ℕ) → 8 * p + 8 ≤ length map → word ≤ limit → Gave map map′ p word flag c last c′ last′ → Passing R map₀ map′ n N limit p₀ q r c′ last′ (p + 1)
-  turn-next map′ c′ last′ long m g =
-      let P = gave-placed R n (N + n + n) c last (Done N n p q r) (X .ordered) few map map′ p word flag c′ last′ (G .going) (G .fronts .p-low) (omega arith) long K g in
-      record {
-        reached = record {
-          merging = step-table R W (wordAt map′) n N c last p q r c′ last′ X G few l P (chosen m);
-          ahead = omega (arith, T .reached .ahead);
-          alike = alike-trans (wordAt map₀) W (wordAt map′) (T .reached .alike) (placed-alike P);
-          same-length = gave-length map map′ p word flag c last c′ last′ long g ∙ T .reached .same-length;
-        };
-        others = λ v o. placed-other P v (λ e. elim o [ inl a ↦ omega (arith, T .reached .ahead) | inr a ↦ omega arith ]) ∙ T .others v o;
-        limits = λ b i. beyond-stays R W n N c last p q r X G few b i limit (wordAt map′) c′ last′ l P (T .limits b i);
-      }
+  -- it has its place
+  turn : (map′ : List ℕ) (c′ last′ : ℕ) → length map′ ≡ length map → Placed R W (wordAt map′) p c last c′ last′ → (0 < W p → renew W (R p) ≤ limit) → Passing R map₀ map′ n N limit p₀ q r c′ last′ (p + 1)
+  turn map′ c′ last′ long P m = record {
+    reached = record {
+      merging = step-table R W (wordAt map′) n N c last p q r c′ last′ X G few l P (λ k. chosen (m k) k);
+      ahead = omega (arith, T .reached .ahead);
+      alike = alike-trans (wordAt map₀) W (wordAt map′) (T .reached .alike) (placed-alike P);
+      same-length = long ∙ T .reached .same-length;
+    };
+    others = λ v o. placed-other P v (λ e. elim o [ inl a ↦ omega (arith, T .reached .ahead) | inr a ↦ omega arith ]) ∙ T .others v o;
+    limits = λ b i. beyond-stays R W n N c last p q r X G few b i limit (wordAt map′) c′ last′ l P (T .limits b i);
+  }
+
+  -- it is left out
+  pub turn-pass : (m : ℕ) → m ≡ W p → m ≡ 0 → Passing R map₀ map n N limit p₀ q r c last (p + 1)
+  turn-pass m m-is none = turn map c last refl (left-out (sym m-is ∙ none) refl refl refl) (λ k. absurd (omega arith))
+
+  -- it is kept, and has record z
+  module _ (z m : ℕ) (z-is : z ≡ R p) (m-is : m ≡ W p) (some : m ≡ 0 → ⊥) where
+    live : 0 < W p
+    live = omega (arith, m-is, some)
+
+    P : Plain W z
+    P = rw z-is (front-plain R W n N c last p q r X G few p refl l live)
+
+    -- its new record can be read off
+    pub turn-ready : 8 * (N + n + n) + 8 ≤ length map → Renewable map z × StaysPlain W z
+    turn-ready long = (keyed-readable R map n (N + n + n) (merging-keyed R W n N c last p q r X G settings nodes) long p z (G .fronts .p-low) (omega arith) z-is .kept live, P .stays)
+
+    module _ (word : ℕ) (w : word ≡ renew W z) where
+      -- its edges differ
+      pub turn-differ : (word ≡ 0 → ⊥) × (middleField word ≡ lowField word → ⊥)
+      turn-differ = rw w (P .some, P .differ)
+
+      -- it is above the limit: the table's nodes that are not are numbered
+      pub turn-last : limit < word → Passed R map₀ map n N limit p₀ q r c last p
+      turn-last h = record { passing = T; above = λ i. (live, rw (← z-is, ← w) h) }
+
+      -- or it gets its number
+      pub turn-next : (map′ : List ℕ) (c′ last′ : ℕ) → 8 * p + 8 ≤ length map → word ≤ limit → Gave map map′ p word 0 c last c′ last′ → Passing R map₀ map′ n N limit p₀ q r c′ last′ (p + 1)
+      turn-next map′ c′ last′ long h g =
+          turn map′ c′ last′ (gave-length map map′ p word 0 c last c′ last′ long g)
+          (gave-placed R n (N + n + n) c last (Done N n p q r) (X .ordered) few map map′ p word 0 c′ last′ (G .going) (G .fronts .p-low) (omega arith) long (rw z-is at key) g)
+          (λ k. rw (← z-is, ← w) h)
+        where
+          key : IsKey W p z word 0
+          key = record { dead = λ k. absurd (omega (arith, live)); word-is = λ k. w; flag-is = λ k. sym (P .even); flag-low = omega arith }
 
 -- behind the table's last node
 pub turn-end : (R : Words) (map₀ map : List ℕ) (n N limit p₀ q r c last p : ℕ) → Passing R map₀ map n N limit p₀ q r c last p → N < p → Passed R map₀ map n N limit p₀ q r c last p

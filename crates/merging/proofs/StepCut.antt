@@ -7,10 +7,11 @@ use native.Mathlib.Nat.{le-refl}
 use native.Mathlib.Omega.{arith}
 use Rattle.words.proofs.Cases.{less, same, more, tri}
 use Rattle.diagram.specs.Format.{Words}
+use Rattle.numbering.specs.Numbered.{KeepsOrder}
 use Rattle.numbering.proofs.Assign.{Adds}
 use Rattle.numbering.proofs.Given.{Placed, placed-other, placed-count, placed-going}
 use Rattle.cutting.specs.Cut.{TwiceCut}
-use Rattle.merging.specs.Inner.{cutNode, front, Done, in-table, in-cut, Fronts, KeepsOrder, Merging, Moved}
+use Rattle.merging.specs.Inner.{cutNode, front, Done, in-table, in-cut, Fronts, Merging, Moved}
 use Rattle.merging.proofs.Moves.{sides, done-moves}
 use Rattle.merging.proofs.Lists.{cut-inside}
 use Rattle.merging.proofs.Least.{Chosen, ready, least}

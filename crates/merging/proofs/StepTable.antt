@@ -8,14 +8,15 @@ use Rattle.words.proofs.Cases.{less, same, more, tri}
 use Rattle.diagram.specs.Format.{Words, highField, height, thenEdge, elseEdge}
 use Rattle.diagram.proofs.Paths.{side, side-node}
 use Rattle.numbering.specs.Renewal.{image, renew}
-use Rattle.numbering.specs.Numbered.{Good, dropped, made}
+use Rattle.numbering.specs.Numbered.{Good, dropped, made, KeepsOrder}
 use Rattle.numbering.proofs.Images.{renew-node}
+use Rattle.numbering.proofs.Plain.{then-even, edges-differ}
 use Rattle.numbering.proofs.Assign.{Adds}
 use Rattle.numbering.proofs.Going.{Assigned, equal-edges, repeated, another}
 use Rattle.numbering.proofs.Given.{Placed, left-out, placed, placed-count, placed-going}
 use Rattle.cutting.specs.Cut.{TwiceCut}
-use Rattle.merging.specs.Inner.{cutNode, Done, in-table, in-cut, KeepsOrder, Merging}
-use Rattle.merging.proofs.Merge.{high, then-even, edges-differ, ordered}
+use Rattle.merging.specs.Inner.{cutNode, Done, in-table, in-cut, Merging}
+use Rattle.merging.proofs.Merge.{high, ordered}
 use Rattle.merging.proofs.Least.{Chosen, ready, least}
 
 -- the table's front is a node further
@@ -39,10 +40,10 @@ module _ (R W W′ : Words) (n N c last v q r c′ last′ : ℕ) (X : TwiceCut 
   -- the place x that node v + 1 gets is of a plain edge, and above those of the nodes before it
   module _ (x : ℕ) (live : 0 < W (suc v)) (A : Assigned (image W (thenEdge R (suc v))) (image W (elseEdge R (suc v))) (renew W (R (suc v))) c last x c′ last′) where
     flag : image W (thenEdge R (suc v)) % 2 ≡ 0
-    flag = then-even R W n N c last (suc v) q r X G few v l live (before v (omega arith))
+    flag = then-even R W n N (N + n + n) (suc v) (X .table) (omega arith) (G .going .closed) (G .kept) v l live (before v (omega arith))
 
     differ : image W (thenEdge R (suc v)) ≡ image W (elseEdge R (suc v)) → ⊥
-    differ = edges-differ R W n N c last (suc v) q r X G few v l live (before v (omega arith))
+    differ = edges-differ R W n N (N + n + n) (suc v) (X .table) (omega arith) (G .going .closed) (G .kept) v l live (before v (omega arith))
 
     x-odd : x % 2 ≡ 1
     x-odd = go A
@@ -68,10 +69,10 @@ module _ (R W W′ : Words) (n N c last v q r c′ last′ : ℕ) (X : TwiceCut 
         o = omega arith
 
         go : Good (height R (suc i)) (image W (thenEdge R (suc i))) (image W (elseEdge R (suc i))) (W (suc i)) (G .going .list) c → W (suc i) < x
-        go (dropped a b) = absurd (edges-differ R W n N c last (suc v) q r X G few i o k (before i (omega arith)) a)
+        go (dropped a b) = absurd (edges-differ R W n N (N + n + n) (suc v) (X .table) (omega arith) (G .going .closed) (G .kept) i o k (before i (omega arith)) a)
         go (made j a b d f) =
             let s = ordered R W n N c last (suc v) q r X G few i v (omega arith) l k live (before i (omega arith)) (before v (omega arith)) in
-            let g = then-even R W n N c last (suc v) q r X G few i o k (before i (omega arith)) in
+            let g = then-even R W n N (N + n + n) (suc v) (X .table) (omega arith) (G .going .closed) (G .kept) i o k (before i (omega arith)) in
             let apart : suc j ≡ c → ⊥ = λ w. omega (arith, ap (G .going .list) w, G .going .latest, f, renew-node R W i) in
             elim (tri (suc j) c) [ less w ↦ omega arith | same w ↦ absurd (apart w) | more w ↦ absurd (omega arith) ]
 

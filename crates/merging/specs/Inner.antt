@@ -1,5 +1,5 @@
 -- A table with the nodes of two cuts behind it is numbered in the order of the new records: what holds in between. For inner contracts only. Assumes nothing.
-use Prim.Native.Nat.{ℕ, suc, _+_, _/_, _%_, _≤_, _<_}
+use Prim.Native.Nat.{ℕ, suc, _+_, _/_, _≤_, _<_}
 use mathlib.Core.Path.{_≡_}
 use mathlib.Core.Logic.{_⊎_}
 use mathlib.Core.Bool.{Bool, cond}
@@ -8,7 +8,7 @@ use lib.ListN.{length}
 use Rattle.words.specs.Words.{wordAt}
 use Rattle.diagram.specs.Format.{Words, highField, thenEdge, elseEdge}
 use Rattle.numbering.specs.Renewal.{renew, IsKey}
-use Rattle.numbering.specs.Numbered.{Alike, Going}
+use Rattle.numbering.specs.Numbered.{KeepsOrder, Alike, Going}
 
 -- the node of height h of a cut: the second one, or the first
 abbrev pub cutNode : ℕ → ℕ → Bool → ℕ → ℕ
@@ -29,11 +29,6 @@ pub record Fronts (N n p q r : ℕ) : Type 0 where
   pub p-high : p ≤ N + 1
   pub low : (second : Bool) → 0 < front q r second
   pub high : (second : Bool) → front q r second ≤ n + 1
-
--- the places of the table's nodes before p keep their order, and are of plain edges
-pub record KeepsOrder (W : Words) (p : ℕ) : Type 0 where
-  pub plain : (i : ℕ) → i < p → 0 < W i → W i % 2 ≡ 1
-  pub rises : (i k : ℕ) → i < k → k < p → 0 < W i → 0 < W k → W i < W k
 
 -- the nodes before the fronts are numbered, with c records of which `last` is the last
 pub record Merging (R W : Words) (n N c last p q r : ℕ) : Type 0 where

@@ -4,7 +4,7 @@ ghost use Prim.Native.Nat.{_+_, _*_, _≤_, _<_};
 ghost use lib.ListN.{length};
 ghost use Rattle.words.specs.Words.{wordAt};
 ghost use Rattle.numbering.specs.Renewal.{IsKey};
-ghost use Rattle.numbering.specs.Numbered.{Marks, Alike, AllNumbered, Keyed};
+ghost use Rattle.numbering.specs.Numbered.{Marks, KeepsOrder, Alike, AllNumbered, Keyed};
 ghost use Rattle.cutting.specs.Cut.{extended, TwiceCut, Room};
 ghost use Rattle.merging.specs.Inner.{cutNode, front, Merging, Limits, Comes, Reached, Passed, Moved};
 use diagram::Node;
@@ -98,21 +98,21 @@ fn number_table(
     let second = at.second;
     let mut next = at.next;
     let mut tally = at.tally;
-    let mut word = diagram::word_after(table, next - 1, nodes);
     while next <= nodes {
-        let this = word;
-        word = diagram::word_after(table, next, nodes);
-        let key = numbering::key_of(map, Node(next), this);
-        if limit < key.word {
-            return Progress {
-                next,
-                first,
-                second,
-                tally,
-            };
-        }
-        tally = numbering::give(map, Node(next), key, tally);
+        let v = next;
         next += 1;
+        if words::word_at(map, v) != 0 {
+            let word = numbering::renew_plain(map, words::word_at(table, v));
+            if limit < word {
+                return Progress {
+                    next: v,
+                    first,
+                    second,
+                    tally,
+                };
+            }
+            tally = numbering::give_number(map, Node(v), Key { word, flag: 0 }, tally);
+        }
     }
     Progress {
         next,
@@ -178,6 +178,7 @@ pub fn number(table: &[u8], more: &[u64; 128], map: &mut [u8], n: usize, nodes: 
     requires { ⌜ Room (now table) (now map) n nodes × TwiceCut (extended (wordAt (now table)) nodes (now more)) n nodes
         × Marks (extended (wordAt (now table)) nodes (now more)) (wordAt (now map)) (nodes + n + n) ⌝ }
     ensures { λ r. ⌜ AllNumbered (extended (wordAt (now (table .entry))) nodes (now (more .entry))) (wordAt (now (map .exit))) (nodes + n + n) r
+        × KeepsOrder (wordAt (now (map .exit))) (nodes + 1)
         × Alike (wordAt (now (map .entry))) (wordAt (now (map .exit))) × (r ≤ nodes + n + n) × (length (now (map .exit)) ≡ length (now (map .entry))) ⌝ }
 {
     let mut at = Progress {

@@ -13,7 +13,7 @@ use Rattle.diagram.specs.Format.{Words, middleField, lowField, height, thenEdge
 use Rattle.diagram.specs.Ordered.{Ordered}
 use Rattle.diagram.specs.Reading.{turn}
 use Rattle.diagram.proofs.Paths.{side}
-use Rattle.numbering.specs.Renewal.{image, renew, IsKey, Given, given-edge, given-last, given-new, Gave, skipped, stored}
+use Rattle.numbering.specs.Renewal.{image, renew, IsKey, same-record, new-record, Given, given-edge, given-number, Gave, skipped, stored}
 use Rattle.numbering.specs.Numbered.{Alike, Going}
 use Rattle.numbering.proofs.Images.{turn-inj, normal-side, renew-node}
 use Rattle.numbering.proofs.Renumber.{renew-positive, side-lt}
@@ -79,8 +79,8 @@ module _ (R : Words) (n M c last : ℕ) (Done : ℕ → Type 0) (D : Ordered R n
 
     given-assigned : Given word flag c last x c′ last′ → Assigned t o (renew W (R (suc v))) c last x c′ last′
     given-assigned (given-edge a b d g) = equal-edges (turn-inj (t % 2) t o (sym middle ∙ a ∙ low)) (omega (arith, middle, f, b, plain (t % 2) (omega arith))) d g
-    given-assigned (given-last a b d g h) = repeated (differ a) (sym w ∙ b) (omega (arith, f)) g (h ∙ w)
-    given-assigned (given-new a b d g h) = another (differ a) (λ k. b (w ∙ k)) (omega (arith, f)) (omega arith) (h ∙ w)
+    given-assigned (given-number a b (same-record d g h)) = repeated (differ a) (sym w ∙ d) (omega (arith, f)) g (h ∙ w)
+    given-assigned (given-number a b (new-record d g h)) = another (differ a) (λ k. d (w ∙ k)) (omega (arith, f)) (omega arith) (h ∙ w)
 
   -- the place that the code gives is the node's
   pub gave-placed : (s s′ : List ℕ) (v word flag c′ last′ : ℕ) → Going R (wordAt s) M c last Done → 0 < v → v ≤ M → 8 * v + 8 ≤ length s

@@ -1,6 +1,6 @@
 -- A node's new record, and what the node is given, in the terms of the code. Assumes nothing.
 use Prim.Native.Nat.{ℕ, zero, suc, _+_, _-_, _*_, _/_, _%_, _≤_, _<_}
-use mathlib.Core.Path.{_≡_, refl, sym, _∙_}
+use mathlib.Core.Path.{_≡_, refl, sym, ap, _∙_}
 use mathlib.Core.Bool.{true, false}
 use mathlib.Core.List.{List}
 use native.Mathlib.Omega.{arith}
@@ -10,34 +10,44 @@ use Rattle.diagram.specs.Format.{Words, middleField, lowField, thenEdge, elseEd
 use Rattle.diagram.specs.Reading.{HasFields, turn, recordOf}
 use Rattle.diagram.proofs.Paths.{side-node}
 use Rattle.diagram.proofs.Edges.{turn-lt}
-use Rattle.numbering.specs.Renewal.{image, normal, renew, Renewable, IsKey, given-edge, given-last, given-new, Gave, stored}
+use Rattle.numbering.specs.Renewal.{image, normal, renew, Renewable, StaysPlain, Readable, IsKey, Counted, same-record, new-record, given-edge, given-number, Gave, stored}
 use Rattle.numbering.specs.Numbered.{Keyed}
 use Rattle.numbering.proofs.Images.{image-small}
 
--- the image of edge e, whose node's place holds m
-pub image-is : (W : Words) (e k m r : ℕ) → k ≡ e / 2 → m ≡ W k → r ≡ turn (e % 2) (m - 1) → r ≡ image W e
+-- the image of edge e to node k, where a plain one becomes a
+pub image-is : (W : Words) (e k a r : ℕ) → k ≡ e / 2 → a ≡ W k - 1 → r ≡ turn (e % 2) a → r ≡ image W e
 unfolding image
-image-is W e k m r k-is m-is q = q ∙ rw (m-is, k-is)
+image-is W e k a r k-is a-is q = q ∙ rw (a-is, k-is)
 
 -- the new record of a diagram's node can be read off
-pub keyed-renewable : (R : Words) (map : List ℕ) (n M : ℕ) → Keyed R (wordAt map) n M → 8 * M + 8 ≤ length map → (v z : ℕ) → 0 < v → v ≤ M → z ≡ R v → Renewable map v z
+pub keyed-readable : (R : Words) (map : List ℕ) (n M : ℕ) → Keyed R (wordAt map) n M → 8 * M + 8 ≤ length map → (v z : ℕ) → 0 < v → v ≤ M → z ≡ R v → Readable map v z
 unfolding thenEdge elseEdge
-keyed-renewable R map n M K long zero z p l e = absurd (omega arith)
-keyed-renewable R map n M K long (suc v) z p l e =
+keyed-readable R map n M K long zero z p l e = absurd (omega arith)
+keyed-readable R map n M K long (suc v) z p l e =
     let a = side-node R n M (K .ordered) true v l in
     let b = side-node R n M (K .ordered) false v l in
     rw e (record {
       room = omega arith;
-      then-room = omega arith;
-      else-room = omega arith;
-      then-live = λ k. K .closed .closed-then v l k;
-      else-live = λ k. K .closed .closed-else v l k;
-      then-small = K .small (thenEdge R (suc v) / 2) (omega arith);
-      else-small = K .small (elseEdge R (suc v) / 2) (omega arith);
+      kept = λ k. record {
+        then-room = omega arith;
+        else-room = omega arith;
+        then-live = K .closed .closed-then v l k;
+        else-live = K .closed .closed-else v l k;
+        then-small = K .small (thenEdge R (suc v) / 2) (omega arith);
+        else-small = K .small (elseEdge R (suc v) / 2) (omega arith);
+      };
     })
 
+-- the nodes of the fields t and e of record z are in the map, and kept
+module _ (map : List ℕ) (z h t e : ℕ) (N : Renewable map z) (F : HasFields z h t e) where
+  pub then-there : (8 * (t / 2) + 8 ≤ length map) × (0 < wordAt map (t / 2))
+  then-there = rw (F .middle-is) (N .then-room, N .then-live)
+
+  pub else-there : (8 * (e / 2) + 8 ≤ length map) × (0 < wordAt map (e / 2))
+  else-there = rw (F .low-is) (N .else-room, N .else-live)
+
 -- the fields h, t and e of record z; a and b are what t and e become, d is b turned by the flag of a
-module _ (map : List ℕ) (v z h t e a b d : ℕ) (N : Renewable map v z) (F : HasFields z h t e)
+module _ (map : List ℕ) (z h t e a b d : ℕ) (N : Renewable map z) (F : HasFields z h t e)
     (a-is : a ≡ image (wordAt map) t) (b-is : b ≡ image (wordAt map) e) (d-is : d ≡ turn (a % 2) b) where
   abbrev W : Words
   W = wordAt map
@@ -52,15 +62,42 @@ module _ (map : List ℕ) (v z h t e a b d : ℕ) (N : Renewable map v z) (F : H
   pub key-fits : (h ≤ 63) × (2 * (a / 2) < 536870912) × (d < 536870912)
   key-fits = (F .high-fits, omega (arith, a-small), rw d-is (turn-lt (a % 2) b 268435456 b-small))
 
-  -- the word of these fields is the key
-  pub key-is : (word : ℕ) → 0 < W v → word ≡ recordOf h (2 * (a / 2)) d → IsKey W v z word (a % 2)
+  -- the word of these fields is the new record
+  renew-is : (word : ℕ) → word ≡ recordOf h (2 * (a / 2)) d → word ≡ renew W z
   unfolding renew normal
-  key-is word live q = record {
+  renew-is word q = q ∙ rw (d-is, a-is, b-is, F .high-is, F .middle-is, F .low-is)
+
+  -- ... and the key of a node that is kept
+  pub key-is : (v word : ℕ) → 0 < W v → word ≡ recordOf h (2 * (a / 2)) d → IsKey W v z word (a % 2)
+  key-is v word live q = record {
     dead = λ k. absurd (omega arith);
-    word-is = λ k. q ∙ rw (d-is, a-is, b-is, F .high-is, F .middle-is, F .low-is);
+    word-is = λ k. renew-is word q;
     flag-is = λ k. rw (a-is, F .middle-is);
     flag-low = omega arith;
   }
+
+-- the same where the then-edge stays plain, so that no flag is taken out
+module _ (map : List ℕ) (z h t e k a b : ℕ) (N : Renewable map z) (P : StaysPlain (wordAt map) z) (F : HasFields z h t e)
+    (k-is : k ≡ t / 2) (a-is : a ≡ wordAt map k - 1) (b-is : b ≡ image (wordAt map) e) where
+  a-odd : wordAt map k % 2 ≡ 1
+  a-odd = rw (k-is, F .middle-is) (P .stays)
+
+  a-image : a ≡ image (wordAt map) t
+  unfolding turn
+  a-image = let f : t % 2 ≡ 0 = rw (F .middle-is) (P .plain) in image-is (wordAt map) t k a a k-is a-is (rw f refl)
+
+  b-turned : b ≡ turn (a % 2) b
+  unfolding turn
+  b-turned = let f : a % 2 ≡ 0 = omega (arith, a-odd) in rw f refl
+
+  even : 2 * (a / 2) ≡ a
+  even = omega (arith, a-odd)
+
+  pub plain-fits : (h ≤ 63) × (a < 536870912) × (b < 536870912)
+  plain-fits = rw even at (key-fits map z h t e a b b N F a-image b-is b-turned)
+
+  pub plain-is : (word : ℕ) → word ≡ recordOf h a b → word ≡ renew (wordAt map) z
+  plain-is word q = renew-is map z h t e a b b N F a-image b-is b-turned word (q ∙ ap (λ (x : ℕ). recordOf h x b) (sym even))
 
 -- a node that is left out
 pub key-dead : (W : Words) (v z m : ℕ) → m ≡ W v → m ≡ 0 → IsKey W v z 0 0
@@ -71,20 +108,22 @@ pub field-small : (word h t e : ℕ) → HasFields word h t e → t < 536870912
 unfolding middleField
 field-small word h t e F = omega (arith, F .middle-is)
 
--- a node with the new record `word` of fields h, t and e
-module _ (map map′ : List ℕ) (v word flag count last h t e : ℕ) (some : word ≡ 0 → ⊥) (F : HasFields word h t e) (low : flag < 2) (few : count < 268435454) where
-  -- its edges are equal
-  pub gave-edge : t ≡ e → map′ ≡ putWord map v (1 + t + flag) → Gave map map′ v word flag count last count last
-  gave-edge q p = stored (1 + t + flag) some (omega (arith, field-small word h t e F)) p (given-edge (sym (F .middle-is) ∙ q ∙ F .low-is) (omega (arith, F .middle-is)) refl refl)
+-- a node with the new record `word` of fields h, t and e, which are equal
+pub gave-edge : (map map′ : List ℕ) (v word flag count last h t e : ℕ) → (word ≡ 0 → ⊥) → HasFields word h t e → flag < 2 → t ≡ e → map′ ≡ putWord map v (1 + t + flag)
+    → Gave map map′ v word flag count last count last
+gave-edge map map′ v word flag count last h t e some F low q p =
+    stored (1 + t + flag) some (omega (arith, field-small word h t e F)) p (given-edge (sym (F .middle-is) ∙ q ∙ F .low-is) (omega (arith, F .middle-is)) refl refl)
 
-  -- they are not, as fields
-  differ : (t ≡ e → ⊥) → middleField word ≡ lowField word → ⊥
-  differ n q = n (F .middle-is ∙ q ∙ sym (F .low-is))
+-- they are not, as fields
+pub fields-differ : (word h t e : ℕ) → HasFields word h t e → (t ≡ e → ⊥) → middleField word ≡ lowField word → ⊥
+fields-differ word h t e F n q = n (F .middle-is ∙ q ∙ sym (F .low-is))
 
-  -- its record is the last one
-  pub gave-last : (t ≡ e → ⊥) → word ≡ last → map′ ≡ putWord map v (1 + 2 * count + flag) → Gave map map′ v word flag count last count last
-  gave-last n q p = stored (1 + 2 * count + flag) some (omega arith) p (given-last (differ n) q refl refl (sym q))
+-- there is at most one record more
+pub counted-few : {word count last count′ last′ : ℕ} → Counted word count last count′ last′ → count′ ≤ count + 1
+counted-few (same-record a b c) = omega arith
+counted-few (new-record a b c) = omega arith
 
-  -- its record is new
-  pub gave-new : (t ≡ e → ⊥) → (word ≡ last → ⊥) → map′ ≡ putWord map v (3 + 2 * count + flag) → Gave map map′ v word flag count last (count + 1) word
-  gave-new n q p = stored (3 + 2 * count + flag) some (omega arith) p (given-new (differ n) q refl refl refl)
+-- it gets the number of its record
+pub gave-number : (map map′ : List ℕ) (v word flag count last count′ last′ : ℕ) → (word ≡ 0 → ⊥) → (middleField word ≡ lowField word → ⊥) → flag < 2 → count < 268435454
+    → Counted word count last count′ last′ → map′ ≡ putWord map v (1 + 2 * count′ + flag) → Gave map map′ v word flag count last count′ last′
+gave-number map map′ v word flag count last count′ last′ some differ low few C p = stored (1 + 2 * count′ + flag) some (omega (arith, counted-few C)) p (given-number differ refl C)

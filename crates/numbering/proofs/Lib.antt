@@ -1,6 +1,7 @@
 -- The laws of numbering a diagram anew.
 pub mod Images
 pub mod Renumber
+pub mod Plain
 pub mod Means
 pub mod Names
 pub mod Assign

@@ -57,6 +57,11 @@ pub record Alike (W W′ : Words) : Type 0 where
   pub up : (v : ℕ) → 0 < W v → 0 < W′ v
   pub down : (v : ℕ) → 0 < W′ v → 0 < W v
 
+-- the places of the nodes before p keep their order, and are of plain edges
+pub record KeepsOrder (W : Words) (p : ℕ) : Type 0 where
+  pub plain : (i : ℕ) → i < p → 0 < W i → W i % 2 ≡ 1
+  pub rises : (i k : ℕ) → i < k → k < p → 0 < W i → 0 < W k → W i < W k
+
 -- the nodes that are done are numbered, with c records of which `last` is the last; what is left has records that are not below it
 pub record Going (R W : Words) (M c last : ℕ) (Done : ℕ → Type 0) : Type 0 where
   pub list : Words

@@ -4,14 +4,14 @@ use mathlib.Core.Path.{subst}
 use borrow.Author.Needs.{needs}
 use Rattle.words.specs.Words.{wordAt}
 use Rattle.numbering.specs.Renewal.{IsKey}
-use Rattle.numbering.proofs.Keys.{keyed-renewable}
+use Rattle.numbering.proofs.Keys.{keyed-readable}
 use Rattle.merging.proofs.key_in.Statement.{statement}
 use Rattle.merging.proofs.key_in.Tie as tie
 
 key-of-requires : tie.Need-key-of-requires
 key-of-requires c κs =
     let a = c .before .before .before in
-    keyed-renewable _ _ _ _ (a .pre .1) (a .pre .0 .map-long) _ _ (a .pre .2) (a .pre .3) (c .word-in .ensures)
+    keyed-readable _ _ _ _ (a .pre .1) (a .pre .0 .map-long) _ _ (a .pre .2) (a .pre .3) (c .word-in .ensures)
 
 returns : tie.Need-returns
 returns c =
