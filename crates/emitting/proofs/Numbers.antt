@@ -1,6 +1,7 @@
 -- Writing the new records one after the other. Assumes nothing.
 use Prim.Native.Nat.{ℕ, suc, _+_, _-_, _*_, _/_, _≤_, _<_}
-use mathlib.Core.Path.{_≡_, sym, ap, _∙_}
+use mathlib.Core.Path.{_≡_, refl, sym, ap, _∙_}
+use mathlib.Core.Bool.{Bool}
 use mathlib.Core.List.{List}
 use native.Mathlib.Omega.{arith}
 use native.Mathlib.Nat.{le-antisymm}
@@ -11,9 +12,13 @@ use Rattle.words.proofs.Cases.{Tri, less, same, more, tri}
 use Rattle.words.proofs.Stores.{Updated, put-updated}
 use Rattle.diagram.specs.Format.{Words, height, thenEdge, elseEdge}
 use Rattle.diagram.specs.Reading.{recordOf}
-use Rattle.numbering.specs.Renewal.{image, renew}
-use Rattle.numbering.specs.Numbered.{Good, dropped, made, Finished}
+use Rattle.diagram.proofs.Paths.{side, side-node}
+use Rattle.numbering.specs.Renewal.{image, renew, StaysPlain}
+use Rattle.numbering.specs.Numbered.{Good, dropped, made, Closed, PlainTable, Finished}
 use Rattle.numbering.proofs.Images.{renew-node}
+use Rattle.numbering.proofs.Plain.{stays-plain, edges-differ}
+use Rattle.cutting.specs.Cut.{extended}
+use Rattle.cutting.proofs.Extended.{extended-low}
 use Rattle.emitting.specs.Emitting.{recordNumber, HasRecord, Emitted, quiet, wrote, NumbersFit, HoldsRecords}
 
 module _ (R W : Words) (n M c root : ℕ) (F : Finished R W n M c root) where
@@ -69,6 +74,22 @@ module _ (R W : Words) (header : ℕ) (out : List ℕ) where
         before u q Q (more p) = U .other (recordNumber W (suc u)) (λ r. omega arith) ∙ G .records u q Q
         before u q Q (same p) = rw p (U .here) ∙ sym (P .one u v (omega arith) inside Q O p)
 
+-- the next word of a table
+pub table-word : (table : List ℕ) (N : ℕ) (list : List ℕ) (v z : ℕ) → v < N → z ≡ wordAt table (v + 1) → z ≡ extended (wordAt table) N list (v + 1)
+table-word table N list v z l e = extended-low (wordAt table) N list (v + 1) z (omega arith) e
+
+-- a node of a table that keeps its order has a new record, if it is kept, and its then-edge stays plain
+pub table-plain : (R W : Words) (n N M v z : ℕ) → N ≤ M → Closed R W M → PlainTable R W n N → v < N → z ≡ R (v + 1) → 0 < W (v + 1) → StaysPlain W z × HasRecord W (v + 1) z
+unfolding thenEdge elseEdge
+table-plain R W n N M v z m C T l e =
+    rw (e, add-one v) (λ k. (
+      stays-plain R W n N M (N + 1) (T .table) m C (T .kept) v l k before,
+      record { live = k; apart = edges-differ R W n N M (N + 1) (T .table) m C (T .kept) v l k before },
+    ))
+  where
+    before : (b : Bool) → side R b (suc v) / 2 < N + 1
+    before b = omega (arith, side-node R n N (T .table .ordered) b v l)
+
 -- the turn of the loop after node v, where z is the next node's record
 module _ (R W : Words) (M size v z : ℕ) (P : NumbersFit R W M size) (inside : v < M) (z-is : z ≡ R (v + 1)) where
   -- there is room for the next node's record
@@ -83,10 +104,14 @@ module _ (R W : Words) (M size v z : ℕ) (P : NumbersFit R W M size) (inside : 
 pub records-last : (R W : Words) (header : ℕ) (out : List ℕ) (v M : ℕ) → v ≤ M → M ≤ v → HoldsRecords R W v header out → HoldsRecords R W M header out
 records-last R W header out v M l m G = rw (le-antisymm m l) G
 
+-- the first word is the header
+pub records-own : {R W : Words} {m header : ℕ} {out : List ℕ} → HoldsRecords R W m header out → HoldsRecords R W m (wordAt out 0) out
+records-own G = record { first = refl; records = G .records }
+
 -- the header stands first
-pub records-header : (R W : Words) (M n c e a word : ℕ) (out out₁ out′ : List ℕ) → 8 ≤ length out → word < 18446744073709551616 → a ≡ image W e → word ≡ recordOf n c a → out₁ ≡ putWord out 0 word
-    → HoldsRecords R W M (wordAt out₁ 0) out′ → HoldsRecords R W M (recordOf n c (image W e)) out′
-records-header R W M n c e a word out out₁ out′ l s a-is word-is p G = record {
-  first = G .first ∙ ap (λ (x : List ℕ). wordAt x 0) p ∙ put-updated out 0 word (omega arith) s .here ∙ word-is ∙ ap (recordOf n c) a-is;
+pub records-header : (R W : Words) (M n c e a word : ℕ) (out out₁ out₂ out′ : List ℕ) → 8 ≤ length out → word < 18446744073709551616 → a ≡ image W e → word ≡ recordOf n c a → out₁ ≡ putWord out 0 word
+    → wordAt out₂ 0 ≡ wordAt out₁ 0 → HoldsRecords R W M (wordAt out₂ 0) out′ → HoldsRecords R W M (recordOf n c (image W e)) out′
+records-header R W M n c e a word out out₁ out₂ out′ l s a-is word-is p kept G = record {
+  first = G .first ∙ kept ∙ ap (λ (x : List ℕ). wordAt x 0) p ∙ put-updated out 0 word (omega arith) s .here ∙ word-is ∙ ap (recordOf n c) a-is;
   records = G .records;
 }

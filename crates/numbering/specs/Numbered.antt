@@ -4,7 +4,7 @@ use mathlib.Core.Path.{_≡_}
 use mathlib.Core.Logic.{_⊎_}
 use Rattle.diagram.specs.Format.{Words, height, thenEdge, elseEdge}
 use Rattle.diagram.specs.Meaning.{under}
-use Rattle.diagram.specs.Ordered.{Ordered, Proper}
+use Rattle.diagram.specs.Ordered.{Ordered, Reduced, Proper}
 use Rattle.numbering.specs.Renewal.{image, normal, renew}
 
 -- x, the map's place of a node of height h whose edges become t and e, is right: 1 + that edge, where they are equal; or else the number of its record in the list L of c records, with the flag
@@ -61,6 +61,11 @@ pub record Alike (W W′ : Words) : Type 0 where
 pub record KeepsOrder (W : Words) (p : ℕ) : Type 0 where
   pub plain : (i : ℕ) → i < p → 0 < W i → W i % 2 ≡ 1
   pub rises : (i k : ℕ) → i < k → k < p → 0 < W i → 0 < W k → W i < W k
+
+-- the nodes up to N are a reduced table, and keep their order
+pub record PlainTable (R W : Words) (n N : ℕ) : Type 0 where
+  pub table : Reduced R n N
+  pub kept : KeepsOrder W (N + 1)
 
 -- the nodes that are done are numbered, with c records of which `last` is the last; what is left has records that are not below it
 pub record Going (R W : Words) (M c last : ℕ) (Done : ℕ → Type 0) : Type 0 where

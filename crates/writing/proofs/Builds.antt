@@ -12,7 +12,7 @@ use Rattle.diagram.proofs.Agree.{agree-under, reduced-agree}
 use Rattle.cutting.specs.Cut.{extended, cutEdge, Cut, TwiceCut}
 use Rattle.cutting.proofs.Extended.{extended-low}
 use Rattle.cutting.proofs.TwoCuts.{once-ordered, once-inside, two-shape, two-inside, two-means}
-use Rattle.numbering.specs.Numbered.{Marked, Alike, AllNumbered}
+use Rattle.numbering.specs.Numbered.{Marked, KeepsOrder, Alike, AllNumbered}
 use Rattle.numbering.proofs.Finish.{finish}
 use Rattle.writing.specs.Inner.{between, IsBuilt}
 
@@ -70,11 +70,12 @@ module _ (w : Words) (n N : ℕ) (D : Reduced w n N) (few-settings : n ≤ 63) (
           ∙ rw (← (agree-under w w₀ n N (D .ordered) N (le-refl N) same r x inside), mod-eq-of-lt p, mod-eq-of-lt q, mod-eq-of-lt m)
 
       -- marked by W₀, and numbered by W
-      pub built : lo < 2 ^ n → hi < 2 ^ n → (W₀ W : Words) (c : ℕ) → Marked w₂ W₀ (N + n + n) b → Alike W₀ W → AllNumbered w₂ W (N + n + n) c → c ≤ N + n + n → IsBuilt w n N r lo hi w₂ W c b
-      built p q W₀ W c K A G m = record {
+      pub built : lo < 2 ^ n → hi < 2 ^ n → (W₀ W : Words) (c : ℕ) → Marked w₂ W₀ (N + n + n) b → Alike W₀ W → AllNumbered w₂ W (N + n + n) c → KeepsOrder W (N + 1) → c ≤ N + n + n → IsBuilt w n N r lo hi w₂ W c b
+      built p q W₀ W c K A G O m = record {
         means = means p q;
         finished = finish w₂ W₀ W n (N + n + n) c b (twice-cut .ordered) K A G (omega arith) second-inside;
         keyed = record { ordered = twice-cut .ordered; closed = G .closed; small = λ v i. omega (arith, G .numbered .small v i) };
+        plain = record { table = twice-cut .table; kept = O };
         inside = second-inside;
         top = A .up (b / 2) (K .top);
       }

@@ -10,7 +10,7 @@ use Rattle.diagram.specs.Meaning.{under}
 use Rattle.diagram.specs.Answer.{Answer}
 use Rattle.tables.specs.Table.{tableOf}
 use Rattle.tables.specs.Writing.{fitted, lengthOf, outAfter}
-use Rattle.numbering.specs.Numbered.{Finished, Keyed}
+use Rattle.numbering.specs.Numbered.{PlainTable, Finished, Keyed}
 
 -- the setups from lo to hi that P permits
 unfoldable pub between : (ℕ → Bool) → ℕ → ℕ → ℕ → Bool
@@ -26,5 +26,6 @@ pub record IsBuilt (w : Words) (n N r lo hi : ℕ) (R W : Words) (c e : ℕ) : T
   pub means : (x : ℕ) → x < 2 ^ n → under R e x ≡ between (under w r) lo hi x
   pub finished : Finished R W n (N + n + n) c e
   pub keyed : Keyed R W n (N + n + n)
+  pub plain : PlainTable R W n N
   pub inside : e / 2 ≤ N + n + n
   pub top : 0 < W (e / 2)

@@ -60,8 +60,8 @@ returns c =
     let m = c .before .before .before .before .before .before .before .before .before .before .add-cut2 .ensures in
     let q = c .before .before .before .before .before .before .before .mark .ensures in
     let e = c .before .before .number .ensures in (
-      built _ _ _ (p .1) (r .few-settings) (r .few-nodes) _ (p .2) _ _ _ _ _ _ _ (k .0) (k .1) (m .0) (m .1) (p .3) (p .4) _ _ _ (q .0) (e .1) (e .0) (e .2),
-      omega (arith, q .1, e .3),
+      built _ _ _ (p .1) (r .few-settings) (r .few-nodes) _ (p .2) _ _ _ _ _ _ _ (k .0) (k .1) (m .0) (m .1) (p .3) (p .4) _ _ _ (q .0) (e .2) (e .0) (e .1) (e .3),
+      omega (arith, q .1, e .4),
     )
 
 pub build-spec : {M : Type 1} → statement M

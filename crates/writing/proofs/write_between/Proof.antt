@@ -36,7 +36,7 @@ write-table-requires c κs =
     let p = entry .pre in
     let e = build .build .ensures in
     let l = length-take-le (8 * (build .build .result .records + 1)) (entry .args .out .now) (if2 .if2 .left) in
-    (room-same (p .0) (e .1), e .0 .keyed, e .0 .finished, omega (arith, l), omega (arith, if1 .if1 .left), e .0 .inside, e .0 .top)
+    (room-same (p .0) (e .1), e .0 .keyed, e .0 .plain, e .0 .finished, omega (arith, l), omega (arith, if1 .if1 .left), e .0 .inside, e .0 .top)
 
 returns-3 : tie.Need-returns-3
 returns-3 c =
