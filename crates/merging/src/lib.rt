@@ -77,7 +77,7 @@ fn key_in(table: &[u8], more: &[u64; 128], map: &[u8], n: usize, nodes: usize, v
     numbering::key_of(map, v, word)
 }
 
-// Numbers the table's next nodes whose new records are not above the limit. (`more` and n are for the contract.)
+// Numbers the table's next nodes whose new records are not above the limit. Their then-edges stay plain, and their edges different. (`more` and n are for the contract.)
 fn number_table(
     table: &[u8],
     more: &[u64; 128],

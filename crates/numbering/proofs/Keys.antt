@@ -108,13 +108,13 @@ pub field-small : (word h t e : ℕ) → HasFields word h t e → t < 536870912
 unfolding middleField
 field-small word h t e F = omega (arith, F .middle-is)
 
--- a node with the new record `word` of fields h, t and e, which are equal
+-- the new record `word` of node v has the fields h, t and e; t and e are equal
 pub gave-edge : (map map′ : List ℕ) (v word flag count last h t e : ℕ) → (word ≡ 0 → ⊥) → HasFields word h t e → flag < 2 → t ≡ e → map′ ≡ putWord map v (1 + t + flag)
     → Gave map map′ v word flag count last count last
 gave-edge map map′ v word flag count last h t e some F low q p =
     stored (1 + t + flag) some (omega (arith, field-small word h t e F)) p (given-edge (sym (F .middle-is) ∙ q ∙ F .low-is) (omega (arith, F .middle-is)) refl refl)
 
--- they are not, as fields
+-- they differ
 pub fields-differ : (word h t e : ℕ) → HasFields word h t e → (t ≡ e → ⊥) → middleField word ≡ lowField word → ⊥
 fields-differ word h t e F n q = n (F .middle-is ∙ q ∙ sym (F .low-is))
 
@@ -123,7 +123,7 @@ pub counted-few : {word count last count′ last′ : ℕ} → Counted word coun
 counted-few (same-record a b c) = omega arith
 counted-few (new-record a b c) = omega arith
 
--- it gets the number of its record
+-- the node gets the number of its record
 pub gave-number : (map map′ : List ℕ) (v word flag count last count′ last′ : ℕ) → (word ≡ 0 → ⊥) → (middleField word ≡ lowField word → ⊥) → flag < 2 → count < 268435454
     → Counted word count last count′ last′ → map′ ≡ putWord map v (1 + 2 * count′ + flag) → Gave map map′ v word flag count last count′ last′
 gave-number map map′ v word flag count last count′ last′ some differ low few C p = stored (1 + 2 * count′ + flag) some (omega (arith, counted-few C)) p (given-number differ refl C)

@@ -55,7 +55,7 @@ pub fn image_of(map: &[u8], e: Edge) -> Edge
     edge_to(map, e.node()).turned_by(e)
 }
 
-// What record `word` becomes, if no flag is taken out of it.
+// What record `word` becomes, if its then-edge stays plain: no flag is taken out.
 pub fn renew_plain(map: &[u8], word: u64) -> u64
     requires { ⌜ Renewable (now map) word × StaysPlain (wordAt (now map)) word ⌝ }
     ensures { λ r. ⌜ r ≡ renew (wordAt (now (map .entry))) word ⌝ }
@@ -96,7 +96,7 @@ pub fn key_of(map: &[u8], v: Node, word: u64) -> Key
     }
 }
 
-// Gives node v, whose record `key` has different edges, the record's number: the next one, or the last if the record is the same.
+// Gives node v, which becomes `key`, a record of different edges, the record's number: the next one, or the last if the record is the same.
 pub fn give_number(map: &mut [u8], v: Node, key: Key, tally: Tally) -> Tally
     requires { ⌜ (8 * v .0 + 8 ≤ length (now map)) × (key .flag < 2) × (tally .count < 268435454)
         × (key .word ≡ 0 → ⊥) × (middleField (key .word) ≡ lowField (key .word) → ⊥) ⌝ }

@@ -4,6 +4,9 @@ use Rattle.emitting.proofs.Emits.{emit-record, emit-none, place-live}
 use Rattle.emitting.proofs.emit_plain.Statement.{statement}
 use Rattle.emitting.proofs.emit_plain.Tie as tie
 
+returns : tie.Need-returns
+returns c = emit-none _ _ _ _ _ (c .before .word-at .ensures) (c .if1 .taken)
+
 renew-plain-requires : tie.Need-renew-plain-requires
 renew-plain-requires c κs =
     let if1 = c .before in
@@ -26,6 +29,4 @@ returns-2 c =
     emit-record _ _ _ _ _ _ (p .2 (place-live _ _ _ (if1 .before .word-at .ensures) (if1 .if1 .left)) .1) (write-record .before .renew-plain .ensures) (search needs) (write-record .write-record .ensures)
 
 pub emit-plain-spec : {M : Type 1} → statement M
-emit-plain-spec =
-    tie.close
-    (tie.spec (λ c κs. search needs) (λ c. emit-none _ _ _ _ _ (c .before .word-at .ensures) (c .if1 .taken)) renew-plain-requires write-record-requires (λ c. search needs) returns-2)
+emit-plain-spec = tie.close (tie.spec (λ c κs. search needs) returns renew-plain-requires write-record-requires (λ c. search needs) returns-2)
