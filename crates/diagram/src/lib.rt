@@ -175,15 +175,3 @@ pub fn height_at(table: &[u8], k: Node) -> u64
     }
     h
 }
-
-// Word k + 1, or any one where there is none. Loops read a record a turn ahead: it is then one load.
-pub fn word_after(table: &[u8], k: usize, nodes: usize) -> u64
-    requires { ⌜ (8 * nodes + 8 ≤ length (now table)) × (k ≤ nodes) ⌝ }
-    ensures { λ r. ⌜ (k < nodes → r ≡ wordAt (now (table .entry)) (k + 1)) ⌝ }
-{
-    let mut i = k;
-    if k < nodes {
-        i = k + 1;
-    }
-    words::word_at(table, i)
-}
