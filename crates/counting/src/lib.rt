@@ -138,8 +138,12 @@ pub fn check_names(table: &[u8], sheet: &mut [u8], n: u64, nodes: usize) -> Verd
     ensures { λ r. ⌜ (verdictAs r ≡ checkNames (wordAt (now (table .entry))) nodes)
         × (now (sheet .exit) ≡ settled (wordAt (now (table .entry))) nodes (verdictAs r) (now (sheet .entry))) ⌝ }
 {
-    if nodes < 1024 {
-        let mut marks = [0u8; 1024];
+    if nodes < 256 {
+        let mut marks = [0u8; 256];
+        return count_named(table, sheet, &mut marks, n, nodes);
+    }
+    if nodes < 4096 {
+        let mut marks = [0u8; 4096];
         return count_named(table, sheet, &mut marks, n, nodes);
     }
     let mut marks = [0u8; 65536];
