@@ -17,7 +17,7 @@
  * `out` receives the part: 8 * (N' + 1) of its out_len bytes are needed. These memories share no
  * byte, and nobody else writes them during a call. No pointer is null; none needs an alignment.
  * Lengths and contents may be any: there is nothing to check before a call. A call allocates
- * nothing, keeps nothing and takes about 67 KiB of stack.
+ * nothing, keeps nothing and takes about 70 KiB of stack.
  *
  * Sheet afterwards, its first N + 1 words (most significant byte first), by what was answered:
  *     refusals 1 to 8, and 10          unchanged
