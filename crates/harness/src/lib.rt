@@ -1,4 +1,4 @@
-// Checking, counting, testing and spans for C, each answer packed into one number. For the outside tests only.
+// Checking, counting, testing and spans for C, each answer packed into one number. For the outside tests and the bench.
 ghost use mathlib.Core.Path.{_≡_};
 ghost use Prim.Native.Nat.{ℕ, _+_, _*_, _^_};
 ghost use Rattle.diagram.specs.Count.{indicator};
