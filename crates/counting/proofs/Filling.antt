@@ -71,8 +71,8 @@ shares-held t n N H s₀ s m l e i j =
     ap (λ (x : List ℕ). wordAt x i) e ∙ words-read (share w) m s₀ i j (omega (arith, b))
 
 -- ... and at node k
-pub fill-sharing : (t : List ℕ) (n N : ℕ) → HasDiagram t n N → Reduced (wordAt t) n N → (s₀ entry s : List ℕ) (k : ℕ) → Begun (share (wordAt t)) s₀ entry N → 0 < k → k ≤ N → s ≡ wordsOver (share (wordAt t)) k s₀
-    → Sharing t s k
+pub fill-sharing : (t : List ℕ) (n N : ℕ) → HasDiagram t n N → Reduced (wordAt t) n N → (s₀ entry s : List ℕ) (k : ℕ) → Begun (share (wordAt t)) s₀ entry N
+    → 0 < k → k ≤ N → s ≡ wordsOver (share (wordAt t)) k s₀ → Sharing t s k
 fill-sharing t n N H R s₀ entry s k B p l e =
     let w = wordAt t in
     let o : suc (k - 1) ≡ k = omega arith in

@@ -75,7 +75,9 @@ marks-names marks w zero h l = refl
 marks-names marks w (suc M) h l =
     let o : suc M - 1 ≡ M = omega arith in
     let m = set marks (suc M) 1 in
-    rw (o, getD-set-same marks (suc M) 1 0 l) (last (each (markCheck m) M) ∙ each-cong (markCheck m) (λ k. checkNamed w (suc M) (suc k)) M (λ k i. rw (getD-set-other marks (suc M) (suc k) 1 0 (λ e. omega arith), h (suc k) (omega arith)) (go (named w (suc M) (suc k)) (suc k))))
+    let one : (k : ℕ) → k < M → markCheck m k ≡ checkNamed w (suc M) (suc k) =
+    λ k i. rw (getD-set-other marks (suc M) (suc k) 1 0 (λ e. omega arith), h (suc k) (omega arith)) (go (named w (suc M) (suc k)) (suc k)) in
+    rw (o, getD-set-same marks (suc M) 1 0 l) (last (each (markCheck m) M) ∙ each-cong (markCheck m) (λ k. checkNamed w (suc M) (suc k)) M one)
   where
     last : (a : Answer (Unit {0})) → andThen a (λ _. pass) ≡ a
     last (value v) = refl

@@ -11,19 +11,27 @@ use Rattle.counting.proofs.count_named.Statement.{statement}
 use Rattle.counting.proofs.count_named.Tie as tie
 
 slice-write-marks : tie.Need-slice-write-marks
-slice-write-marks c = omega (arith, c .before .before .before .before .before .before .before .before .before .before .pre .3, c .before .before .before .before .count-nodes .ensures .1)
+slice-write-marks c =
+    let count-nodes = c .before .before .before .before in
+    omega (arith, count-nodes .before .before .before .before .before .before .pre .3, count-nodes .count-nodes .ensures .1)
 
 settle-requires : tie.Need-settle-requires
 settle-requires c κs =
-    let p = c .before .before .before .before .before .before .before .before .before .before .before .before .pre in
-    let f = c .before .before .before .before .before .before .count-nodes .ensures in
-    (record { settings = _; nodes = _; holds = p .0; inside = omega arith }, search needs, shares-held _ _ _ (p .0) _ _ _ (omega arith) (f .0), simp length-set (omega (arith, p .3, f .1)))
+    let count-nodes = c .before .before .before .before .before .before in
+    let p = count-nodes .before .before .before .before .before .before .pre in
+    let f = count-nodes .count-nodes .ensures in (
+      record { settings = _; nodes = _; holds = p .0; inside = omega arith },
+      search needs,
+      shares-held _ _ _ (p .0) _ _ _ (omega arith) (f .0),
+      simp length-set (omega (arith, p .3, f .1)),
+    )
 
 returns : tie.Need-returns
 returns c =
-    let a = c .before .before .before .before .before .before .before .before .before .before .before .before .before .before .before in
+    let count-nodes = c .before .before .before .before .before .before .before .before .before in
+    let a = count-nodes .before .before .before .before .before .before in
     let w = wordAt (a .args .table .now) in
-    let f = c .before .before .before .before .before .before .before .before .before .count-nodes .ensures in
+    let f = count-nodes .count-nodes .ensures in
     let s = c .before .before .settle .ensures in
     (s .0 ∙ marks-names _ _ _ (f .2) (omega (arith, f .1, a .pre .3)), s .1 ∙ ap (settled w (a .args .nodes) _) (f .0) ∙ settled-over (share w) w (a .args .nodes) _ _)
 
