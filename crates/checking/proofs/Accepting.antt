@@ -98,12 +98,9 @@ module _ (need : ℕ → ℕ) (some : (N : ℕ) → N + 1 ≤ need N) (t s out :
 
       root-filled : Filled t out (e / 2)
       root-filled = record {
-        ready = record {
-          within = root-within;
-          room = omega (arith, ap length filled, length-wordsOver (place w) (N + 1) s room, room, root-inside);
-          places = λ k l. holds-place k (omega (arith, root-inside));
-        };
-        own = holds-place (e / 2) root-inside;
+        within = root-within;
+        room = omega (arith, ap length filled, length-wordsOver (place w) (N + 1) s room, room, root-inside);
+        places = λ k l. holds-place k (omega (arith, root-inside));
       }
 
       pub root-opens : Opens t out e n

@@ -12,20 +12,11 @@ use Rattle.diagram.specs.Answer.{Answer, value, refusal, pass, each}
 use Rattle.diagram.specs.Rules.{named}
 use Rattle.diagram.specs.Reading.{Within}
 
--- the first m places of a sheet hold the counts of nodes 0 to m - 1
-abbrev pub HoldsPlaces : Words → ℕ → Words → Type 0
-HoldsPlaces sheet m w = (k : ℕ) → k < m → sheet k ≡ place w k
-
--- node k lies in the table, it has a place in the sheet, and the places of the nodes below it are filled
-pub record Ready (table sheet : List ℕ) (k : ℕ) : Type 0 where
+-- node k lies in the table, it has a place in the sheet, and the places of nodes 0 to k hold their counts
+pub record Filled (table sheet : List ℕ) (k : ℕ) : Type 0 where
   pub within : Within table k
   pub room : 8 * k + 8 ≤ length sheet
-  pub places : HoldsPlaces (wordAt sheet) k (wordAt table)
-
--- ... and its own too
-pub record Filled (table sheet : List ℕ) (k : ℕ) : Type 0 where
-  pub ready : Ready table sheet k
-  pub own : wordAt sheet k ≡ place (wordAt table) k
+  pub places : (j : ℕ) → j ≤ k → wordAt sheet j ≡ place (wordAt table) j
 
 -- edge e, from height h down, can be counted: the places of its node and of those below are filled
 pub record Opens (table sheet : List ℕ) (e h : ℕ) : Type 0 where

@@ -33,11 +33,11 @@ module _ (t s : List ℕ) (e v y : ℕ) (F : Filled t s (e / 2)) (v-is : v ≡ e
   node-filled = subst (Filled t s) (sym v-is) F
 
   pub node-room : 8 * v + 8 ≤ length t
-  node-room = within-room t v (node-filled .ready .within)
+  node-room = within-room t v (node-filled .within)
 
   module _ (g : ℕ) (g-is : g ≡ height w v) where
     few : g ≤ 63
-    few = omega (arith, g-is, within-low t v (node-filled .ready .within))
+    few = omega (arith, g-is, within-low t v (node-filled .within))
 
     pub edge-opens : Opens t s e g
     edge-opens = record { filled = F; low = omega (arith, g-is, ap (height w) v-is); few = few }
@@ -58,7 +58,7 @@ module _ (t s : List ℕ) (e v y : ℕ) (F : Filled t s (e / 2)) (v-is : v ≡ e
 
       pub edge-sum : (r : ℕ) → r ≡ y / 2 ^ g * block + opposite (e % 2) (y % 2 ^ g) inside → r ≡ countBelow (under w e) y
       edge-sum r q =
-          let W = F .ready .within in
+          let W = F .within in
           q ∙ rw (block-is, inside-count, g-is, v-is) (sym (below-edge w (W .settings) (W .nodes) (W .holds .ordered) e y (W .inside)))
 
 -- node k left by edge e
@@ -76,5 +76,5 @@ module _ (t s : List ℕ) (k y e c rest : ℕ) (F : Filled t s k) (T : IsStep (w
   node-sum v g block inside r v-is g-is block-is inside-is r-is l =
       let q : r ≡ countBelow (under (wordAt t) e) rest = edge-sum t s e v rest step-filled v-is g g-is block inside block-is inside-is r r-is in
       let u : c + r ≡ countBelow (plain (wordAt t) k) y = rw q (sym (T .sum)) in
-      let h = within-low t k (F .ready .within) in
+      let h = within-low t k (F .within) in
       (u, omega (arith, u, count-le (plain (wordAt t) k) y, pow-lt {i = height (wordAt t) k} {j = 64} (omega (arith, h))))

@@ -37,7 +37,7 @@ module _ (t s : List ℕ) (n root asked h e left x : ℕ) (O : Opens t s e h) (t
   w = wordAt t
 
   W : Within t (e / 2)
-  W = O .filled .ready .within
+  W = O .filled .within
 
   abbrev P : ℕ → Bool
   P = under w root

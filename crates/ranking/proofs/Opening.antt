@@ -21,7 +21,7 @@ high-node t e h v g W l v-is g-is q = (no-sink (wordAt t) v (omega (arith, g-is)
 pub cofactor-opens : (t s : List ℕ) (e h z : ℕ) (b : Bool) → Opens t s e h → 0 < h → z ≡ cofactor (wordAt t) h b e → Opens t s z (h - 1)
 cofactor-opens t s e h z b O l z-is =
     let F = O .filled in
-    let W = F .ready .within in
+    let W = F .within in
     let o = cofactor-low (wordAt t) (W .settings) (W .nodes) (W .holds .ordered) e h (W .inside) (O .low) l b in
     rw z-is (record {
       filled = filled-below t s (e / 2) F (cofactor (wordAt t) h b e / 2) (o .0);

@@ -23,7 +23,7 @@ module _ (t s : List ℕ) (k y h a b : ℕ) (p : 0 < k) (F : Filled t s k) (l : 
   w = wordAt t
 
   W : Within t k
-  W = F .ready .within
+  W = F .within
 
   pub tall : 0 < h
   tall = inside-tall t k h a b p W r

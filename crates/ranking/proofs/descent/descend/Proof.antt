@@ -21,7 +21,7 @@ loop-holds : tie.Need-loop-holds Inv-loop μ-loop
 loop-holds c = let p = c .before .before .pre in (p .0, chosen-first _ _ _ _ (p .1))
 
 cofactors-of-requires : tie.Need-cofactors-of-requires Inv-loop μ-loop
-cofactors-of-requires c κs = let o = c .before .loop .inv .0 in (o .filled .ready .within, o .low, c .loop-test .taken)
+cofactors-of-requires c κs = let o = c .before .loop .inv .0 in (o .filled .within, o .low, c .loop-test .taken)
 
 count-under-requires : tie.Need-count-under-requires Inv-loop μ-loop
 count-under-requires c κs = cofactor-opens _ _ _ _ _ false (c .before .before .loop .inv .0) (c .before .loop-test .taken) (c .cofactors-of .ensures .1)

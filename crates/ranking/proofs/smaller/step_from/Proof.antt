@@ -6,7 +6,7 @@ use Rattle.ranking.proofs.smaller.step_from.Statement.{statement}
 use Rattle.ranking.proofs.smaller.step_from.Tie as tie
 
 record-at-requires : tie.Need-record-at-requires
-record-at-requires c κs = let p = c .before .before .pre in (p .0, within-room _ _ (p .1 .ready .within))
+record-at-requires c κs = let p = c .before .before .pre in (p .0, within-room _ _ (p .1 .within))
 
 sub-h : tie.Need-sub-h
 sub-h c = let a = c .before in let p = a .before .before .before .pre in tall _ _ _ _ _ _ _ (p .0) (p .1) (p .2) (a .record-at .ensures)
