@@ -42,7 +42,8 @@ be-bytesOf p q m v (suc i) l =
     let b : getD (p ++ (bytesOf m v ++ q)) (length p + i) 0 ≡ u % 256 =
     getD-append-add p (bytesOf m v ++ q) i 0 ∙ List·getD-append (bytesOf m v) q 0 i (subst (λ (n : ℕ). i < n) (sym (length-bytesOf m v)) l) ∙ getD-bytesOf m v i l in
     let a : beAt (p ++ (bytesOf m v ++ q)) (length p) i ≡ u / 256 % 256 ^ i =
-    be-bytesOf p q m v i (omega arith) ∙ ap (λ (n : ℕ). n % 256 ^ i) (ap (λ (n : ℕ). v / 256 ^ n) e ∙ ap (λ (n : ℕ). v / n) (pow-suc 256 (m - suc i)) ∙ sym (div-div-eq-div-mul v (256 ^ (m - suc i)) 256)) in
+    be-bytesOf p q m v i (omega arith)
+    ∙ ap (λ (n : ℕ). n % 256 ^ i) (ap (λ (n : ℕ). v / 256 ^ n) e ∙ ap (λ (n : ℕ). v / n) (pow-suc 256 (m - suc i)) ∙ sym (div-div-eq-div-mul v (256 ^ (m - suc i)) 256)) in
     let c : u % 256 ^ suc i ≡ u / 256 % 256 ^ i * 256 + u % 256 = ap (λ (n : ℕ). u % n) (pow-suc 256 i) ∙ mod-mul u (one-le-pow i 256 (lit< tt)) (lit< tt) in
     omega arith
 

@@ -11,13 +11,13 @@ use lib.Seq.{sets-eq}
 use Rattle.words.specs.Words.{beAt, wordAt, bytesOf, putWord}
 use Rattle.words.specs.Swap.{swap}
 
--- eight bytes, most significant first, in two halves
-word-halves : (l : List ℕ) (k : ℕ)
-    → (getD l (8 * k) 0 * 16777216 + getD l (8 * k + 1) 0 * 65536 + getD l (8 * k + 2) 0 * 256 + getD l (8 * k + 3) 0) * 4294967296
-    + (getD l (8 * k + 4) 0 * 16777216 + getD l (8 * k + 5) 0 * 65536 + getD l (8 * k + 6) 0 * 256 + getD l (8 * k + 7) 0)
+-- eight bytes, most significant first
+word-sum : (l : List ℕ) (k : ℕ)
+    → getD l (8 * k) 0 * 72057594037927936 + getD l (8 * k + 1) 0 * 281474976710656 + getD l (8 * k + 2) 0 * 1099511627776 + getD l (8 * k + 3) 0 * 4294967296
+    + getD l (8 * k + 4) 0 * 16777216 + getD l (8 * k + 5) 0 * 65536 + getD l (8 * k + 6) 0 * 256 + getD l (8 * k + 7) 0
     ≡ wordAt l k
 unfolding wordAt beAt
-word-halves l k = simp add-zero (omega arith)
+word-sum l k = simp add-zero (omega arith)
 
 -- a digit of a number to the base 256, by what stands before and behind it
 digit : (w m lo d hi : ℕ) → w ≡ lo + m * (d + 256 * hi) → lo < m → d < 256 → w / m % 256 ≡ d
@@ -32,13 +32,13 @@ module _ (w a b c d e f g h : ℕ) (sum : w ≡ a + b * 256 + c * 65536 + d * 16
       × (w / 4294967296 % 256 ≡ e) × (w / 1099511627776 % 256 ≡ f) × (w / 281474976710656 % 256 ≡ g) × (w / 72057594037927936 % 256 ≡ h)
   digits = (
     omega arith,
-    digit w 256 (a) b (c + d * 256 + e * 65536 + f * 16777216 + g * 4294967296 + h * 1099511627776) (omega arith) (omega arith) p1,
+    digit w 256 a b (c + d * 256 + e * 65536 + f * 16777216 + g * 4294967296 + h * 1099511627776) (omega arith) (omega arith) p1,
     digit w 65536 (a + b * 256) c (d + e * 256 + f * 65536 + g * 16777216 + h * 4294967296) (omega arith) (omega arith) p2,
     digit w 16777216 (a + b * 256 + c * 65536) d (e + f * 256 + g * 65536 + h * 16777216) (omega arith) (omega arith) p3,
     digit w 4294967296 (a + b * 256 + c * 65536 + d * 16777216) e (f + g * 256 + h * 65536) (omega arith) (omega arith) p4,
     digit w 1099511627776 (a + b * 256 + c * 65536 + d * 16777216 + e * 4294967296) f (g + h * 256) (omega arith) (omega arith) p5,
-    digit w 281474976710656 (a + b * 256 + c * 65536 + d * 16777216 + e * 4294967296 + f * 1099511627776) g (h) (omega arith) (omega arith) p6,
-    digit w 72057594037927936 (a + b * 256 + c * 65536 + d * 16777216 + e * 4294967296 + f * 1099511627776 + g * 281474976710656) h (0) (omega arith) (omega arith) p7,
+    digit w 281474976710656 (a + b * 256 + c * 65536 + d * 16777216 + e * 4294967296 + f * 1099511627776) g h (omega arith) (omega arith) p6,
+    digit w 72057594037927936 (a + b * 256 + c * 65536 + d * 16777216 + e * 4294967296 + f * 1099511627776 + g * 281474976710656) h 0 (omega arith) (omega arith) p7,
   )
 
   -- in the opposite order
@@ -54,19 +54,23 @@ pub swap-loads : (l : List ℕ) (k : ℕ) → ((i : ℕ) → getD l i 0 < 256)
     → swap (getD l (8 * k) 0 + getD l (8 * k + 1) 0 * 256 + getD l (8 * k + 2) 0 * 65536 + getD l (8 * k + 3) 0 * 16777216 + getD l (8 * k + 4) 0 * 4294967296
     + getD l (8 * k + 5) 0 * 1099511627776 + getD l (8 * k + 6) 0 * 281474976710656 + getD l (8 * k + 7) 0 * 72057594037927936)
     ≡ wordAt l k
-swap-loads l k f = turned _ _ _ _ _ _ _ _ _ refl (f _) (f _) (f _) (f _) (f _) (f _) (f _) (f _) ∙ omega (arith, word-halves l k)
+swap-loads l k f = turned _ _ _ _ _ _ _ _ _ refl (f _) (f _) (f _) (f _) (f _) (f _) (f _) (f _) ∙ word-sum l k
 
 -- eight stores, most significant byte first
 put-stores : (l : List ℕ) (k v : ℕ) → 8 * k + 8 ≤ length l
-    → set (set (set (set (set (set (set (set l (8 * k) (v / 72057594037927936 % 256)) (8 * k + 1) (v / 281474976710656 % 256)) (8 * k + 2) (v / 1099511627776 % 256)) (8 * k + 3) (v / 4294967296 % 256))
+    → set (set (set (set (set (set (set (set l (8 * k) (v / 72057594037927936 % 256))
+    (8 * k + 1) (v / 281474976710656 % 256)) (8 * k + 2) (v / 1099511627776 % 256)) (8 * k + 3) (v / 4294967296 % 256))
     (8 * k + 4) (v / 16777216 % 256)) (8 * k + 5) (v / 65536 % 256)) (8 * k + 6) (v / 256 % 256)) (8 * k + 7) (v % 256)
     ≡ putWord l k v
 unfolding putWord bytesOf
 put-stores l k v h = simp (towards-suc, div-one) (simp (towards-suc, div-one) at (sets-eq (bytesOf 8 v) l (8 * k) h))
 
 -- the digits of the number turned over
-swap-digits : (v : ℕ) → (swap v % 256 ≡ v / 72057594037927936 % 256) × (swap v / 256 % 256 ≡ v / 281474976710656 % 256) × (swap v / 65536 % 256 ≡ v / 1099511627776 % 256) × (swap v / 16777216 % 256 ≡ v / 4294967296 % 256)
-    × (swap v / 4294967296 % 256 ≡ v / 16777216 % 256) × (swap v / 1099511627776 % 256 ≡ v / 65536 % 256) × (swap v / 281474976710656 % 256 ≡ v / 256 % 256) × (swap v / 72057594037927936 % 256 ≡ v % 256)
+swap-digits : (v : ℕ)
+    → (swap v % 256 ≡ v / 72057594037927936 % 256) × (swap v / 256 % 256 ≡ v / 281474976710656 % 256)
+    × (swap v / 65536 % 256 ≡ v / 1099511627776 % 256) × (swap v / 16777216 % 256 ≡ v / 4294967296 % 256)
+    × (swap v / 4294967296 % 256 ≡ v / 16777216 % 256) × (swap v / 1099511627776 % 256 ≡ v / 65536 % 256)
+    × (swap v / 281474976710656 % 256 ≡ v / 256 % 256) × (swap v / 72057594037927936 % 256 ≡ v % 256)
 unfolding swap
 swap-digits v = digits (swap v) _ _ _ _ _ _ _ _ (omega arith) (byte _) (byte _) (byte _) (byte _) (byte _) (byte _) (byte _) (byte _)
 
@@ -78,14 +82,16 @@ pub swap-stores : (l : List ℕ) (k v : ℕ) → 8 * k + 8 ≤ length l
 swap-stores l k v h = let D = swap-digits v in rw (D .0, D .1, D .2, D .3, D .4, D .5, D .6, D .7) at (put-stores l k (swap v) h)
 
 -- a number by its digits, one division after the other
-expand : (v q r s t u x y a b c d e f g : ℕ) → v ≡ a + 256 * q → q ≡ b + 256 * r → r ≡ c + 256 * s → s ≡ d + 256 * t → t ≡ e + 256 * u → u ≡ f + 256 * x → x ≡ g + 256 * y
+expand : (v q r s t u x y a b c d e f g : ℕ)
+    → v ≡ a + 256 * q → q ≡ b + 256 * r → r ≡ c + 256 * s → s ≡ d + 256 * t → t ≡ e + 256 * u → u ≡ f + 256 * x → x ≡ g + 256 * y
     → y * 72057594037927936 + g * 281474976710656 + f * 1099511627776 + e * 4294967296 + d * 16777216 + c * 65536 + b * 256 + a ≡ v
 expand v q r s t u x y a b c d e f g i j k l m n o = omega arith
 
 -- turned over twice, the bytes are as they were
 pub swap-swap : (v : ℕ) → v < 18446744073709551616 → swap (swap v) ≡ v
 swap-swap v l =
-    turned (swap v) (v / 72057594037927936 % 256) (v / 281474976710656 % 256) (v / 1099511627776 % 256) (v / 4294967296 % 256) (v / 16777216 % 256) (v / 65536 % 256) (v / 256 % 256) (v % 256)
+    turned (swap v) (v / 72057594037927936 % 256) (v / 281474976710656 % 256) (v / 1099511627776 % 256) (v / 4294967296 % 256)
+    (v / 16777216 % 256) (v / 65536 % 256) (v / 256 % 256) (v % 256)
     (unfold swap in omega arith) (byte _) (byte _) (byte _) (byte _) (byte _) (byte _) (byte _) (byte _)
     ∙ expand v (v / 256) (v / 65536) (v / 16777216) (v / 4294967296) (v / 1099511627776) (v / 281474976710656) _ _ _ _ _ _ _ _
     (omega arith) (omega arith) (omega arith) (omega arith) (omega arith) (omega arith) (omega arith)

@@ -1,4 +1,4 @@
-// Words of 64 bits in a slice of bytes, most significant byte first: a read is one load and a byte swap, and so is a store.
+// Words of 64 bits in a slice of bytes, most significant byte first: a read is one load and a byte swap, a write a byte swap and one store.
 // The load and the store have functions of their own, least significant byte first: the compiler makes one access of each.
 ghost use mathlib.Core.Path.{_≡_};
 ghost use Prim.Native.Nat.{_+_, _*_, _≤_};

@@ -27,19 +27,22 @@ check-record-requires c κs = (omega arith, omega arith, c .word-at .ensures, c 
 returns : tie.Need-returns Inv-loop μ-loop
 unfolding checkRecords
 returns c =
-    let g = c .before .before .before .before .before in
-    let a = g .before .before .before .args in
-    turn-refused (λ k. checkRecord (wordAt (a .table .now)) (a .n) (suc k)) _ _ (g .before .loop .inv .1) (c .before .before .check-record .ensures ∙ rw add-one) _ _ (g .loop-test .taken) (c .enum-told2 .given .1)
+    let check-record = c .before .before in
+    let turn = check-record .before .before .before in
+    let a = turn .before .before .before .args in
+    turn-refused (λ k. checkRecord (wordAt (a .table .now)) (a .n) (suc k)) _ _
+    (turn .before .loop .inv .1) (check-record .check-record .ensures ∙ rw add-one) _ _ (turn .loop-test .taken) (c .enum-told2 .given .1)
 
 loop-again : tie.Need-loop-again Inv-loop μ-loop
 unfolding checkRecords
 loop-again c =
-    let g = c .before .before .before .before .before .before .before in
-    let a = g .before .before .args in
-    let s = c .skip-level .ensures in (
-      s .1,
-      s .2 (a .n) (turn-passed (λ k. checkRecord (wordAt (a .table .now)) (a .n) (suc k)) _ _ (g .loop .inv .1) (c .before .before .before .check-record .ensures ∙ rw add-one) (c .before .enum-told .given .1)),
-    )
+    let check-record = c .before .before .before in
+    let head = check-record .before .before .before .before in
+    let a = head .before .before .args in
+    let s = c .skip-level .ensures in
+    let passed = turn-passed (λ k. checkRecord (wordAt (a .table .now)) (a .n) (suc k)) _ _
+    (head .loop .inv .1) (check-record .check-record .ensures ∙ rw add-one) (c .before .enum-told .given .1) in
+    (s .1, s .2 (a .n) passed)
 
 returns-2 : tie.Need-returns-2 Inv-loop μ-loop
 returns-2 c =

@@ -8,9 +8,10 @@ use Rattle.rules.proofs.in_level.Tie as tie
 
 returns-5 : tie.Need-returns-5
 returns-5 c e =
-    let b = c .before .before in
-    in-level _ _ _ _ _ _ _ (b .before .before .before .before .before .of .ensures) (b .before .before .before .before .if1 .left) (b .before .before .before .if2 .left)
-    (b .before .if3 .left) _ (b .flagged .ensures) (c .before .if4 .left) e
+    let flagged = c .before .before in
+    let if2 = flagged .before .before .before in
+    in-level _ _ _ _ _ _ _ (if2 .before .before .of .ensures) (if2 .before .if1 .left) (if2 .if2 .left)
+    (flagged .before .if3 .left) _ (flagged .flagged .ensures) (c .before .if4 .left) e
 
 pub in-level-spec : {M : Type 1} → statement M
 in-level-spec =

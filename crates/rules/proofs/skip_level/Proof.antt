@@ -1,5 +1,5 @@
 -- `rules::skip_level` meets its contract. The loop's invariant: the records up to `at` pass if those up to k do, and they ascend from k on. Assumes nothing.
-use Prim.Native.Nat.{_+_, _-_, _≤_, _<_}
+use Prim.Native.Nat.{_-_, _≤_}
 use mathlib.Core.Path.{_≡_}
 use native.Mathlib.Omega.{arith}
 use native.Mathlib.Nat.{le-refl}
@@ -39,20 +39,20 @@ returns-3 c = let i = c .before .before .before .before .loop .inv in (i .0, i .
 
 loop-again : tie.Need-loop-again Inv-loop μ-loop
 loop-again c =
-    let g = c .before .before .before .before in
-    let v = g .before .before in
-    let b = v .before .before in
-    let a = b .before .before .before .before .before in
-    let i = g .loop .inv in
-    let l = c .before .before .before .loop-test .taken in
+    let turn = c .before .before .before in
+    let word = turn .before .before .before in
+    let if2 = word .before .before in
+    let a = if2 .before .before .before .before .before in
+    let i = turn .before .loop .inv in
+    let l = turn .loop-test .taken in
     let word-is = c .before .before .word-at2 .ensures in
     let f = c .before .in-level .ensures (not-false _ (c .if3 .left)) in (
       omega arith,
       omega arith,
       omega (arith, f .ascends),
       word-is,
-      pass-next (wordAt (a .args .table .now)) _ _ _ _ _ _ _ _ (a .pre .0) (b .before .before .before .if1 .left) (b .before .before .height-at .ensures .0) (b .before .height-at2 .ensures .0) (b .if2 .left)
-          (v .before .new .ensures) (v .word .ensures) (i .0) (i .2) (i .3) word-is f (i .4),
+      pass-next (wordAt (a .args .table .now)) _ _ _ _ _ _ _ _ (a .pre .0) (if2 .before .before .before .if1 .left) (if2 .before .before .height-at .ensures .0)
+          (if2 .before .height-at2 .ensures .0) (if2 .if2 .left) (word .before .new .ensures) (word .word .ensures) (i .0) (i .2) (i .3) word-is f (i .4),
     )
 
 returns-4 : tie.Need-returns-4 Inv-loop μ-loop

@@ -9,10 +9,15 @@ use Rattle.words.proofs.Stores.{length-put}
 use Rattle.words.proofs.put_word.Statement.{statement}
 use Rattle.words.proofs.put_word.Tie as tie
 
+same-length : tie.Need-same-length
+same-length c = let store = c .before .before in ap length (store .store .ensures) ∙ length-put _ _ _ (store .before .before .before .before .pre)
+
 returns : tie.Need-returns
 returns c =
-    let a = c .before .before .before .before .before .before in
-    c .before .before .store .ensures ∙ ap (putWord (a .args .bytes .now) (a .args .k)) (ap swap (c .before .before .before .swapped .ensures) ∙ swap-swap (a .args .v) (search needs))
+    let store = c .before .before in
+    let swapped = store .before in
+    let a = swapped .before .before .before .args in
+    store .store .ensures ∙ ap (putWord (a .bytes .now) (a .k)) (ap swap (swapped .swapped .ensures) ∙ swap-swap (a .v) (search needs))
 
 pub put-word-spec : {M : Type 1} → statement M
-put-word-spec = tie.close (tie.spec (λ c κs. search needs) (λ c κs. search needs) (λ c. ap length (c .before .before .store .ensures) ∙ length-put _ _ _ (c .before .before .before .before .before .before .pre)) returns)
+put-word-spec = tie.close (tie.spec (λ c κs. search needs) (λ c κs. search needs) same-length returns)
