@@ -38,7 +38,7 @@ module _ (need : ℕ → ℕ) (some : (N : ℕ) → N + 1 ≤ need N) (t s out :
     checking-is : checkingFor need t s ≡ value (shape .settings, shape .nodes)
     checking-is = sym (is .0) ∙ ap checkedAs q
 
-    pub going-on : {B : Type 0} (f : ℕ × ℕ → Answer B) → andThen (checkingFor need t s) f ≡ f (shape .settings, shape .nodes)
+    going-on : {B : Type 0} (f : ℕ × ℕ → Answer B) → andThen (checkingFor need t s) f ≡ f (shape .settings, shape .nodes)
     unfolding andThen
     going-on f = ap (λ b. andThen b f) checking-is
 

@@ -18,16 +18,13 @@ unfolding recordNumber
 number-is map v a i a-is i-is = i-is ∙ ap (λ (x : ℕ). x / 2) a-is
 
 -- a node that has a new record, `word`: it is written
-pub emit-record : (W : Words) (v z word : ℕ) (out out′ : List ℕ) → HasRecord W v z → word ≡ renew W z → word < 18446744073709551616 → out′ ≡ putWord out (recordNumber W v) word → Emitted W out out′ v z
+pub emit-record : (W : Words) (v z word : ℕ) (out out′ : List ℕ) → HasRecord W v z → word ≡ renew W z → word < 18446744073709551616
+    → out′ ≡ putWord out (recordNumber W v) word → Emitted W out out′ v z
 emit-record W v z word out out′ O w s q = wrote O (rw (← w) s) (q ∙ ap (putWord out (recordNumber W v)) w)
 
 -- node v's place holds m: it is left out, and has no new record
 pub emit-none : (W : Words) (v z m : ℕ) (out : List ℕ) → m ≡ W v → m ≡ 0 → Emitted W out out v z
 emit-none W v z m out m-is none = quiet (λ O. omega (arith, O .live)) refl
-
--- or it is kept
-pub place-live : (map : List ℕ) (v m : ℕ) → m ≡ wordAt map v → (m ≡ 0 → ⊥) → 0 < wordAt map v
-place-live map v m m-is some = omega (arith, m-is, some)
 
 -- node v, of record z, becomes a word of fields h, t and e
 module _ (map : List ℕ) (v z word flag h t e : ℕ) (N : Readable map v z) (K : IsKey (wordAt map) v z word flag) (F : HasFields word h t e) where

@@ -20,7 +20,8 @@ use Rattle.merging.proofs.Merge.{few-records, high}
 use Rattle.merging.proofs.Levels.{same-front}
 
 -- the same with the fronts under other names
-pub passed-as : {R : Words} {map map′ : List ℕ} {n N limit p q r c′ last′ p′ q′ r′ : ℕ} → q′ ≡ q → r′ ≡ r → Passed R map map′ n N limit p q r c′ last′ p′ → Passed R map map′ n N limit p q′ r′ c′ last′ p′
+pub passed-as : {R : Words} {map map′ : List ℕ} {n N limit p q r c′ last′ p′ q′ r′ : ℕ}
+    → q′ ≡ q → r′ ≡ r → Passed R map map′ n N limit p q r c′ last′ p′ → Passed R map map′ n N limit p q′ r′ c′ last′ p′
 passed-as e f P = rw (e, f) P
 
 -- numbering goes on and on

@@ -30,7 +30,7 @@ module _ (R W : Words) (n N c last p q r : ℕ) (X : TwiceCut R n N) (G : Mergin
   cut-left b a i j = (omega arith, omega (arith, cut-height R n N X b a (omega (arith, G .fronts .low b)) j))
 
   -- what is lower than height h is done, where the fronts are not
-  pub lower-done : (h : ℕ) → (p ≤ N → h ≤ height R p) → ((b : Bool) → front q r b ≤ n → h ≤ front q r b) → (a : ℕ) → a ≤ M → height R a < h → Done N n p q r a
+  lower-done : (h : ℕ) → (p ≤ N → h ≤ height R p) → ((b : Bool) → front q r b ≤ n → h ≤ front q r b) → (a : ℕ) → a ≤ M → height R a < h → Done N n p q r a
   lower-done h i j a l m = elim (place N n p q r a l) [ inl d ↦ d | inr d ↦ absurd (no d) ]
     where
       no : Left N n p q r a → ⊥

@@ -8,12 +8,11 @@ use native.Mathlib.Omega.{arith}
 use native.Mathlib.Nat.{le-refl}
 use lib.ListN.{length}
 use Rattle.words.specs.Words.{wordAt}
-use Rattle.words.proofs.Cases.{less, same, more, tri}
 use Rattle.diagram.specs.Format.{Words, highField, middleField, lowField, thenEdge, elseEdge}
 use Rattle.diagram.proofs.Paths.{side}
 use Rattle.numbering.specs.Renewal.{renew, Renewable, StaysPlain, IsKey, Gave}
 use Rattle.numbering.proofs.Images.{renew-as}
-use Rattle.numbering.proofs.Keys.{keyed-readable}
+use Rattle.numbering.proofs.Keys.{keyed-readable, place-live}
 use Rattle.numbering.proofs.Finish.{alike-same, alike-trans}
 use Rattle.numbering.proofs.Given.{Placed, left-out, placed-alike, placed-other, gave-length, gave-placed}
 use Rattle.cutting.specs.Cut.{TwiceCut}
@@ -47,7 +46,7 @@ module _ (R W : Words) (n N c last p q r : ℕ) (X : TwiceCut R n N) (G : Mergin
   beyond-limit (level m d e f) = (m, f)
 
   -- ... and stays so while a node of the table is numbered
-  pub beyond-stays : (W′ : Words) (c′ last′ : ℕ) → p ≤ N → Placed R W W′ p c last c′ last′ → Beyond R W N n p q r (front q r b) v limit → Beyond R W′ N n (p + 1) q r (front q r b) v limit
+  beyond-stays : (W′ : Words) (c′ last′ : ℕ) → p ≤ N → Placed R W W′ p c last c′ last′ → Beyond R W N n p q r (front q r b) v limit → Beyond R W′ N n (p + 1) q r (front q r b) v limit
   beyond-stays W′ c′ last′ m P (higher i) = higher i
   beyond-stays W′ c′ last′ m P (level i d e f) =
       level i (table-adds N n p q r m .old (thenEdge R v / 2) d) (table-adds N n p q r m .old (elseEdge R v / 2) e)
@@ -85,7 +84,8 @@ module _ (R : Words) (map₀ map : List ℕ) (n N limit p₀ q r c last p : ℕ)
   }
 
   -- it has its place
-  turn : (map′ : List ℕ) (c′ last′ : ℕ) → length map′ ≡ length map → Placed R W (wordAt map′) p c last c′ last′ → (0 < W p → renew W (R p) ≤ limit) → Passing R map₀ map′ n N limit p₀ q r c′ last′ (p + 1)
+  turn : (map′ : List ℕ) (c′ last′ : ℕ) → length map′ ≡ length map → Placed R W (wordAt map′) p c last c′ last′ → (0 < W p → renew W (R p) ≤ limit)
+      → Passing R map₀ map′ n N limit p₀ q r c′ last′ (p + 1)
   turn map′ c′ last′ long P m = record {
     reached = record {
       merging = step-table R W (wordAt map′) n N c last p q r c′ last′ X G few l P (λ k. chosen (m k) k);
@@ -104,7 +104,7 @@ module _ (R : Words) (map₀ map : List ℕ) (n N limit p₀ q r c last p : ℕ)
   -- it is kept, and has record z
   module _ (z m : ℕ) (z-is : z ≡ R p) (m-is : m ≡ W p) (some : m ≡ 0 → ⊥) where
     live : 0 < W p
-    live = omega (arith, m-is, some)
+    live = place-live map p m m-is some
 
     P : Plain W z
     P = rw z-is (front-plain R W n N c last p q r X G few p refl l live)

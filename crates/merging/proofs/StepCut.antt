@@ -16,7 +16,8 @@ use Rattle.merging.proofs.Moves.{sides, done-moves}
 use Rattle.merging.proofs.Lists.{cut-inside}
 use Rattle.merging.proofs.Least.{Chosen, ready, least}
 
-module _ (R W W′ : Words) (n N c last p q r c′ last′ q′ r′ : ℕ) (b : Bool) (X : TwiceCut R n N) (G : Merging R W n N c last p q r) (few : c < 268435454) (T : Moved q r q′ r′ b) (l : front q r b ≤ n) where
+module _ (R W W′ : Words) (n N c last p q r c′ last′ q′ r′ : ℕ) (b : Bool) (X : TwiceCut R n N) (G : Merging R W n N c last p q r)
+    (few : c < 268435454) (T : Moved q r q′ r′ b) (l : front q r b ≤ n) where
   abbrev v : ℕ
   v = cutNode N n b (front q r b)
 

@@ -106,7 +106,8 @@ module _ (R W W′ : Words) (n N c last v q r c′ last′ : ℕ) (X : TwiceCut 
   next : Placed R W W′ (suc v) c last c′ last′ → (0 < W (suc v) → Chosen R W n N (suc v) q r (suc v)) → Merging R W′ n N c′ last′ (suc v + 1) q r
   next P H = record {
     fronts = record { p-low = omega arith; p-high = omega arith; low = G .fronts .low; high = G .fronts .high };
-    going = placed-going R n (N + n + n) c last (Done N n (suc v) q r) (X .ordered) few W W′ (suc v) c′ last′ (Done N n (suc v + 1) q r) (G .going) (omega arith) (omega arith) P (table-adds N n (suc v) q r l)
+    going = placed-going R n (N + n + n) c last (Done N n (suc v) q r) (X .ordered) few W W′ (suc v) c′ last′ (Done N n (suc v + 1) q r) (G .going) (omega arith) (omega arith) P
+        (table-adds N n (suc v) q r l)
         (λ k. ready R W n N c last (suc v) q r X G few (suc v) (omega arith) (omega arith) (H k)) (λ k. least R W n N c last (suc v) q r X G few (suc v) (omega arith) (omega arith) (H k));
     kept = kept P;
     count = omega (arith, G .count, placed-count P);

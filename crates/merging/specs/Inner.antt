@@ -51,7 +51,8 @@ pub record Comes (R W : Words) (n N p q r : ℕ) (second : Bool) (v : ℕ) : Typ
   pub inside : front q r second ≤ n
   pub then-done : Done N n p q r (thenEdge R v / 2)
   pub else-done : Done N n p q r (elseEdge R v / 2)
-  pub limit : (word flag : ℕ) → IsKey W v (R v) word flag → (other : Bool) → (other ≡ second → ⊥) → front q r other ≤ n → Beyond R W N n p q r (front q r other) (cutNode N n other (front q r other)) word
+  pub limit : (word flag : ℕ) → IsKey W v (R v) word flag → (other : Bool) → (other ≡ second → ⊥) → front q r other ≤ n
+      → Beyond R W N n p q r (front q r other) (cutNode N n other (front q r other)) word
 
 -- numbering goes on, from the table's front p, to the fronts p′, q′ and r′
 pub record Reached (R : Words) (map map′ : List ℕ) (n N p c′ last′ p′ q′ r′ : ℕ) : Type 0 where

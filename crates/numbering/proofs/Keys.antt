@@ -99,7 +99,11 @@ module _ (map : List ℕ) (z h t e k a b : ℕ) (N : Renewable map z) (P : Stays
   pub plain-is : (word : ℕ) → word ≡ recordOf h a b → word ≡ renew (wordAt map) z
   plain-is word q = renew-is map z h t e a b b N F a-image b-is b-turned word (q ∙ ap (λ (x : ℕ). recordOf h x b) (sym even))
 
--- a node that is left out
+-- node v's place holds m: it is kept
+pub place-live : (map : List ℕ) (v m : ℕ) → m ≡ wordAt map v → (m ≡ 0 → ⊥) → 0 < wordAt map v
+place-live map v m m-is some = omega (arith, m-is, some)
+
+-- or it is left out
 pub key-dead : (W : Words) (v z m : ℕ) → m ≡ W v → m ≡ 0 → IsKey W v z 0 0
 key-dead W v z m p q = record { dead = λ k. refl; word-is = λ k. absurd (omega arith); flag-is = λ k. absurd (omega arith); flag-low = omega arith }
 

@@ -33,7 +33,7 @@ module _ (R W : Words) (n N M p : ℕ) (T : Reduced R n N) (fewer : N ≤ M) (C 
 
   -- a node whose edges lead before p
   module _ (i : ℕ) (inside : i < N) (live : 0 < W (suc i)) (before : (b : Bool) → side R b (suc i) / 2 < p) where
-    pub side-live : (b : Bool) → 0 < W (side R b (suc i) / 2)
+    side-live : (b : Bool) → 0 < W (side R b (suc i) / 2)
     side-live b = closed-side R W M C b i (omega arith) live
 
     pub stays-plain : StaysPlain W (R (suc i))

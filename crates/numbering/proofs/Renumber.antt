@@ -25,7 +25,7 @@ module _ (R W L : Words) (n M c : ℕ) (Done : ℕ → Type 0) (D : Ordered R n 
   new b k = image W (side R b (suc k))
 
   -- images lead to the records
-  pub image-lt : (e : ℕ) → e / 2 ≤ M → image W e < 2 * (c + 1)
+  image-lt : (e : ℕ) → e / 2 ≤ M → image W e < 2 * (c + 1)
   image-lt e l = image-small W e (c + 1) (omega (arith, S .small (e / 2) l))
 
   -- ... and fit a field

@@ -70,7 +70,8 @@ module _ (w : Words) (n N : ℕ) (D : Reduced w n N) (few-settings : n ≤ 63) (
           ∙ rw (← (agree-under w w₀ n N (D .ordered) N (le-refl N) same r x inside), mod-eq-of-lt p, mod-eq-of-lt q, mod-eq-of-lt m)
 
       -- marked by W₀, and numbered by W
-      pub built : lo < 2 ^ n → hi < 2 ^ n → (W₀ W : Words) (c : ℕ) → Marked w₂ W₀ (N + n + n) b → Alike W₀ W → AllNumbered w₂ W (N + n + n) c → KeepsOrder W (N + 1) → c ≤ N + n + n → IsBuilt w n N r lo hi w₂ W c b
+      pub built : lo < 2 ^ n → hi < 2 ^ n → (W₀ W : Words) (c : ℕ) → Marked w₂ W₀ (N + n + n) b → Alike W₀ W → AllNumbered w₂ W (N + n + n) c
+          → KeepsOrder W (N + 1) → c ≤ N + n + n → IsBuilt w n N r lo hi w₂ W c b
       built p q W₀ W c K A G O m = record {
         means = means p q;
         finished = finish w₂ W₀ W n (N + n + n) c b (twice-cut .ordered) K A G (omega arith) second-inside;

@@ -12,14 +12,17 @@ returns c = records-refused _ _ _ _ _ (c .before .before .check-records .ensures
 
 check-names-requires : tie.Need-check-names-requires
 check-names-requires c κs =
-    let a = c .before .before .before .before .before .before in
-    let R = records-reduced _ _ _ (sym (c .before .before .before .check-records .ensures) ∙ ap verdictAs (c .before .enum-told .given .1)) in
+    let check-records = c .before .before .before in
+    let a = check-records .before .before .before in
+    let R = records-reduced _ _ _ (sym (check-records .check-records .ensures) ∙ ap verdictAs (c .before .enum-told .given .1)) in
     (record { long = a .pre .0; few = a .pre .2; few-settings = a .pre .3; ordered = R .ordered }, R, a .pre .1)
 
 returns-2 : tie.Need-returns-2
 returns-2 c =
-    let d = c .before .before .check-names .ensures in
-    names-checked _ _ _ _ _ (c .before .before .before .before .before .before .check-records .ensures) (c .before .before .before .before .enum-told .given .1) _ (d .0) _ (d .1)
+    let check-names = c .before .before in
+    let enum-told = check-names .before .before in
+    let d = check-names .check-names .ensures in
+    names-checked _ _ _ _ _ (enum-told .before .before .check-records .ensures) (enum-told .enum-told .given .1) _ (d .0) _ (d .1)
 
 pub check-diagram-spec : {M : Type 1} → statement M
 check-diagram-spec =

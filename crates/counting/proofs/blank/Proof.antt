@@ -31,8 +31,11 @@ loop-again : tie.Need-loop-again Inv-loop μ-loop
 loop-again c =
     let a = c .before .before .before .before .before .before .before in
     let i = c .before .before .before .before .before .loop in
-    let l = c .before .before .before .before .loop-test .taken in
-    (omega arith, c .before .before .put-word .ensures ∙ ap (λ (x : List ℕ). putWord x (i .k) 0) (i .inv .1) ∙ put-next (λ _. 0) (i .k) (a .args .sheet .now) (omega (arith, a .pre)) ∙ ap (λ (m : ℕ). wordsOver (λ _. 0) m (a .args .sheet .now)) (sym (add-one (i .k))))
+    let l = c .before .before .before .before .loop-test .taken in (
+      omega arith,
+      c .before .before .put-word .ensures ∙ ap (λ (x : List ℕ). putWord x (i .k) 0) (i .inv .1) ∙ put-next (λ _. 0) (i .k) (a .args .sheet .now) (omega (arith, a .pre))
+          ∙ ap (λ (m : ℕ). wordsOver (λ _. 0) m (a .args .sheet .now)) (sym (add-one (i .k))),
+    )
 
 same-length : tie.Need-same-length Inv-loop μ-loop
 same-length c =

@@ -1,6 +1,6 @@
 -- `counting::check_names` meets its contract: an array of zeros has no mark. Assumes nothing.
-use Rattle.words.specs.Words.{wordAt}
 use borrow.Author.Needs.{needs}
+use Rattle.words.specs.Words.{wordAt}
 use Rattle.counting.proofs.Marks.{no-marks}
 use Rattle.counting.proofs.check_names.Statement.{statement}
 use Rattle.counting.proofs.check_names.Tie as tie

@@ -8,10 +8,14 @@ sub-result : tie.Need-sub-result
 sub-result c = let a = c .before .before .before .before .before in place-below _ (a .args .e .value) _ _ _ _ (a .pre) (c .before .before .before .node .ensures) (c .before .before .word-at .ensures)
 
 returns : tie.Need-returns
-returns c = let a = c .before .before .before .before .before in edge-flagged _ (a .args .e .value) _ _ _ _ (a .pre) (c .before .before .before .node .ensures) (c .before .before .word-at .ensures) _ (c .before .flagged .ensures) (c .if1 .taken)
+returns c =
+    let a = c .before .before .before .before .before in
+    edge-flagged _ (a .args .e .value) _ _ _ _ (a .pre) (c .before .before .before .node .ensures) (c .before .before .word-at .ensures) _ (c .before .flagged .ensures) (c .if1 .taken)
 
 returns-2 : tie.Need-returns-2
-returns-2 c = let a = c .before .before .before .before .before in edge-plain _ (a .args .e .value) _ _ _ _ (a .pre) (c .before .before .before .node .ensures) (c .before .before .word-at .ensures) _ (c .before .flagged .ensures) (c .if1 .left)
+returns-2 c =
+    let a = c .before .before .before .before .before in
+    edge-plain _ (a .args .e .value) _ _ _ _ (a .pre) (c .before .before .before .node .ensures) (c .before .before .word-at .ensures) _ (c .before .flagged .ensures) (c .if1 .left)
 
 pub count-edge-spec : {M : Type 1} → statement M
 count-edge-spec =

@@ -1,5 +1,5 @@
 -- `emitting::emit_table` meets its contract. The loop's invariant: the new records of nodes 1 to v are written (`HoldsRecords`). Assumes nothing.
-use Prim.Native.Nat.{_+_, _-_, _≤_}
+use Prim.Native.Nat.{_-_, _≤_}
 use mathlib.Core.Path.{_≡_, refl}
 use native.Mathlib.Omega.{arith}
 use lib.ListN.{length}

@@ -1,8 +1,6 @@
 -- `emitting::write_record` meets its contract. Assumes nothing.
-use mathlib.Core.Path.{ap, _∙_}
 use native.Mathlib.Omega.{arith}
 use borrow.Author.Needs.{needs}
-use Rattle.words.specs.Words.{putWord}
 use Rattle.emitting.proofs.Emits.{number-is}
 use Rattle.emitting.proofs.write_record.Statement.{statement}
 use Rattle.emitting.proofs.write_record.Tie as tie

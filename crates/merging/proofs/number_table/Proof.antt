@@ -12,7 +12,8 @@ use Rattle.merging.proofs.number_table.Statement.{statement}
 use Rattle.merging.proofs.number_table.Tie as tie
 
 abbrev Inv-loop : tie.InvT-loop
-Inv-loop table more map₀ n nodes limit first second next₀ tally₀ map next tally = Passing (extended (wordAt table) nodes more) map₀ map n nodes limit next₀ first second (tally .count) (tally .last) next
+Inv-loop table more map₀ n nodes limit first second next₀ tally₀ map next tally =
+    Passing (extended (wordAt table) nodes more) map₀ map n nodes limit next₀ first second (tally .count) (tally .last) next
 
 abbrev μ-loop : tie.MeasureT-loop
 μ-loop table more map₀ n nodes limit first second next₀ tally₀ map next tally = nodes + 1 - next
