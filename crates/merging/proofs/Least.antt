@@ -43,7 +43,8 @@ module _ (R W : Words) (n N c last p q r : ℕ) (X : TwiceCut R n N) (G : Mergin
       let t = side-lower R n M (X .ordered) b v some inside in
       lower-done h i j (side R b v / 2) (omega (arith, t .node)) (omega (arith, t .low))
 
-module _ (R W : Words) (n N c last p q r : ℕ) (X : TwiceCut R n N) (G : Merging R W n N c last p q r) (few : c < 268435454) (v : ℕ) (some : 0 < v) (inside : v ≤ N + n + n) (H : Chosen R W n N p q r v) where
+module _ (R W : Words) (n N c last p q r : ℕ) (X : TwiceCut R n N) (G : Merging R W n N c last p q r) (few : c < 268435454)
+    (v : ℕ) (some : 0 < v) (inside : v ≤ N + n + n) (H : Chosen R W n N p q r v) where
   -- its edges lead to nodes that are done
   pub ready : (b : Bool) → Done N n p q r (side R b v / 2)
   ready =

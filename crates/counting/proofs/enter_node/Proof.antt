@@ -58,7 +58,7 @@ returns c =
     let a = entry share-of in
     let p = a .pre in
     let r = record-at .record-at .ensures in
-    let m = c .before .before .before .before .before .before .before .before .before .before .before .mark-named .ensures in (
+    let m = share-of .before .before .before .before .before .before .before .mark-named .ensures in (
       c .before .before .put-word .ensures ∙ ap (putWord (a .args .sheet .now) (a .args .k .0)) (halves share-of .0),
       ap length m ∙ simp length-set,
       subst (λ (x : List ℕ). Marked x (a .args .k .0) (wordAt (a .args .table .now))) (sym m)

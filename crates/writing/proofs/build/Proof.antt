@@ -31,10 +31,12 @@ add-cut-requires-2 c κs =
 
 mark-requires : tie.Need-mark-requires
 mark-requires c κs =
-    let p = c .before .before .before .before .before .before .before .before .pre in
+    let add-cut2 = c .before .before in
+    let add-cut = add-cut2 .before .before in
+    let p = add-cut .before .before .before .before .pre in
     let r = p .0 in
-    let k = c .before .before .before .before .add-cut .ensures in
-    let m = c .before .before .add-cut2 .ensures in (
+    let k = add-cut .add-cut .ensures in
+    let m = add-cut2 .add-cut2 .ensures in (
       r,
       twice-cut _ _ _ (p .1) (r .few-settings) (r .few-nodes) _ (p .2) _ _ _ _ _ _ _ (k .0) (k .1) (m .0) (m .1) .ordered,
       second-inside _ _ _ (p .1) (r .few-settings) (r .few-nodes) _ (p .2) _ _ _ _ _ _ _ (k .0) (k .1) (m .0) (m .1),
@@ -42,11 +44,14 @@ mark-requires c κs =
 
 number-requires : tie.Need-number-requires
 number-requires c κs =
-    let p = c .before .before .before .before .before .before .before .before .before .before .before .before .before .pre in
+    let mark = c .before .before .before .before in
+    let add-cut2 = mark .before .before .before in
+    let add-cut = add-cut2 .before .before in
+    let p = add-cut .before .before .before .before .pre in
     let r = p .0 in
-    let k = c .before .before .before .before .before .before .before .before .before .add-cut .ensures in
-    let m = c .before .before .before .before .before .before .before .add-cut2 .ensures in
-    let q = c .before .before .before .before .mark .ensures in (
+    let k = add-cut .add-cut .ensures in
+    let m = add-cut2 .add-cut2 .ensures in
+    let q = mark .mark .ensures in (
       room-same r (q .1),
       twice-cut _ _ _ (p .1) (r .few-settings) (r .few-nodes) _ (p .2) _ _ _ _ _ _ _ (k .0) (k .1) (m .0) (m .1),
       q .0 .marks,
@@ -54,12 +59,16 @@ number-requires c κs =
 
 returns : tie.Need-returns
 returns c =
-    let p = c .before .before .before .before .before .before .before .before .before .before .before .before .before .before .before .before .pre in
+    let number = c .before .before in
+    let mark = number .before .before .before .before .before in
+    let add-cut2 = mark .before .before .before in
+    let add-cut = add-cut2 .before .before in
+    let p = add-cut .before .before .before .before .pre in
     let r = p .0 in
-    let k = c .before .before .before .before .before .before .before .before .before .before .before .before .add-cut .ensures in
-    let m = c .before .before .before .before .before .before .before .before .before .before .add-cut2 .ensures in
-    let q = c .before .before .before .before .before .before .before .mark .ensures in
-    let e = c .before .before .number .ensures in (
+    let k = add-cut .add-cut .ensures in
+    let m = add-cut2 .add-cut2 .ensures in
+    let q = mark .mark .ensures in
+    let e = number .number .ensures in (
       built _ _ _ (p .1) (r .few-settings) (r .few-nodes) _ (p .2) _ _ _ _ _ _ _ (k .0) (k .1) (m .0) (m .1) (p .3) (p .4) _ _ _ (q .0) (e .2) (e .0) (e .1) (e .3),
       omega (arith, q .1, e .4),
     )
