@@ -86,7 +86,7 @@ blanked : (c : tie.After-blank Inv-loop μ-loop)
 blanked c =
     let store = store-of c in
     let l = turn-of store .loop-test .taken in
-    c .blank .ensures ∙ fill-over _ _ _ _ (filling (first-of store)) _ _ (stored store) (λ _. 0) _ (omega arith) (omega arith)
+    c .blank .ensures ∙ fill-over _ _ _ _ (filling (first-of store)) _ _ (stored store) (λ _. 0) (entry (first-of store) .args .last + 1) (omega arith) (omega arith)
 
 same-length : tie.Need-same-length Inv-loop μ-loop
 same-length c =
