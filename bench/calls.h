@@ -1,32 +1,38 @@
-/* The six operations by number, of the library ("ours") and of plain.c ("plain C"). */
+/* The seven operations by number, of the library ("ours") and of plain.c ("plain C"); unrank-list twice, for
+ * two lists. */
 #ifndef CALLS_H
 #define CALLS_H
 
 #include <stddef.h>
 #include <stdint.h>
 
-enum operation { CHECK, COUNT, TEST, RANK, UNRANK, PART_WRITE, OPERATIONS };
+enum operation { CHECK, COUNT, TEST, RANK, UNRANK, PART_WRITE, LIST_SPREAD, LIST_ROW, OPERATIONS };
 enum side { OURS, PLAIN, SIDES };
 
 #define PARTS 8 /* the division that is timed: part 3 of 8 */
 #define PART 3
+#define ITEMS 8192 /* numbers of the lists that are timed */
 
-/* The memories lent to a call. */
+/* The memories lent to a call. A list's setups go to the out memory; its answer has three words. */
 struct lent {
     const uint8_t *table;
     size_t table_len;
+    uint8_t *ranks;
+    size_t ranks_len;
     uint8_t *sheet;
     size_t sheet_len;
     uint8_t *out;
     size_t out_len;
+    uint64_t *answer;
 };
 
-/* The numbers of a call: a setup or a rank in `a`; the number of parts and the part for part-write. */
+/* The numbers of a call: a setup or a rank in `a`; the number of parts and the part for part-write; none for a list. */
 struct numbers {
     uint64_t a, b;
 };
 
 const char *operation_name(enum operation op);
+int is_list(enum operation op);
 
 /* The sheet for a table of N records: N + 1 places, and 4 N + 512 for part-write. */
 size_t sheet_len_of(enum operation op, uint32_t count);

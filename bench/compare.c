@@ -1,4 +1,4 @@
-/* Ours against plain C: answers and every byte of sheet and out memory. */
+/* Ours against plain C: answers and every byte of the lent memory. */
 #include "compare.h"
 
 #include <stdio.h>
@@ -45,14 +45,17 @@ static void compare_call(const struct table *t, struct pair *p, enum operation o
     struct lent *a = &p->of[OURS], *b = &p->of[PLAIN];
     size_t len = a->sheet_len, rest = len;
     fill(&p->seed, a->sheet, b->sheet, len + GUARD);
-    fill(&p->seed, a->out, b->out, 8 * ((size_t)t->count + 128) + GUARD);
+    fill(&p->seed, a->out, b->out, out_room(t) + GUARD);
+    fill(&p->seed, (uint8_t *)a->answer, (uint8_t *)b->answer, ANSWER + GUARD);
     uint64_t ours = call(OURS, op, a, x), plain = call(PLAIN, op, b, x);
     if (ours != plain) stop(t, op, x, "the answers differ");
+    if (memcmp(a->answer, b->answer, ANSWER + GUARD)) stop(t, op, x, "the answers' words differ");
     if (leaves_scratch(op, ours)) rest = 8 * ((size_t)t->count + 1);
     if (memcmp(a->sheet, b->sheet, rest)) stop(t, op, x, "the sheets differ");
     if (memcmp(a->sheet + len, b->sheet + len, GUARD)) stop(t, op, x, "bytes behind the sheet differ");
-    if (memcmp(a->out, b->out, 8 * ((size_t)t->count + 128) + GUARD)) stop(t, op, x, "the out memories differ");
+    if (memcmp(a->out, b->out, out_room(t) + GUARD)) stop(t, op, x, "the out memories differ");
     if (memcmp(a->table, b->table, a->table_len)) stop(t, op, x, "a table was changed");
+    if (memcmp(a->ranks, b->ranks, 8 * ITEMS + GUARD)) stop(t, op, x, "a list was changed");
     p->calls++;
 }
 
@@ -67,22 +70,63 @@ static struct numbers numbers_of(enum operation op, const struct table *t, struc
         uint64_t k = 1 + r % (i % 2 ? 65535 : 9);
         return i < 8 ? parts[i] : (struct numbers){k, next_random(&p->seed) % k};
     }
+    if (is_list(op)) return (struct numbers){i, 0}; /* for a message alone */
     if (i < 6) return (struct numbers){op == UNRANK ? ranks[i] : setups[i], 0};
     if (i < 14 && op != UNRANK) return (struct numbers){r >> (64 - t->settings), 0};
     return draw_numbers(op, t, &p->of[PLAIN], &p->seed);
 }
 
+/* The timed list with other lengths, one item another number, then all numbers raised. */
+struct list {
+    size_t ranks_len, out_len;
+    uint64_t item, number, raise;
+};
+
+/* A random list, by i: served, with one number that may fall, with numbers too high, without room for the last. */
+static struct list draw_list(const struct table *t, struct pair *p, int i)
+{
+    size_t len = 8 + next_random(&p->seed) % (8 * ITEMS - 16), spare = next_random(&p->seed) % 8;
+    uint64_t item = next_random(&p->seed) % ITEMS, number = next_random(&p->seed) % t->total;
+    struct list list = {len, len / 8 * 8 + spare, item, word_at(p->of[PLAIN].ranks, item), 0};
+    if (i % 4 == 1) list.number = number;
+    if (i % 4 == 2) list.raise = number;
+    if (i % 4 == 3) list.out_len -= 8;
+    return list;
+}
+
+/* List i of CALLS: the first ones at the ends of the ranges, the others random. */
+static struct list list_of(const struct table *t, struct pair *p, int i)
+{
+    uint64_t count = t->total, last = ITEMS - 1, all = 8 * ITEMS, top = ~(uint64_t)0;
+    struct list lists[] = {
+        {all, all, 0, 0, 0}, {all - 1, all - 8, 0, 0, 0}, {all - 8, all - 1, 0, 0, 0}, /* served */
+        {8, 8, 0, count - 1, 0}, {7, 0, 0, 0, 0}, {0, 0, 0, 0, 0},
+        {all, all - 1, last, 0, 0}, {all, 0, 0, top, 0}, {8, 7, 0, count, 0}, /* 18 */
+        {all, all, last, 0, 0}, {all, all, 0, count, 0}, {16, 16, 0, top, 0}, /* 17 */
+        {all, all, last, count, 0}, {all, all, last, top, 0}, {all, all, 0, 0, count}, {8, 8, 0, count, 0}, /* 14 */
+    };
+    return i < (int)(sizeof lists / sizeof *lists) ? lists[i] : draw_list(t, p, i);
+}
+
+static void change_list(struct pair *p, struct list list)
+{
+    for (int side = 0; side < SIDES; side++) {
+        struct lent *m = &p->of[side];
+        m->ranks_len = list.ranks_len;
+        m->out_len = list.out_len;
+        put_word(m->ranks, list.item, list.number);
+        for (int i = 0; i < ITEMS; i++) put_word(m->ranks, i, word_at(m->ranks, i) + list.raise);
+    }
+}
+
 /* Word k of a table with another bit, with its then-edge flagged, or with its then-edge as its else-edge too. */
 static void damage_word(uint8_t *table, uint64_t k, uint64_t bit, int kind)
 {
-    uint64_t word;
-    memcpy(&word, table + 8 * k, 8);
-    word = __builtin_bswap64(word);
+    uint64_t word = word_at(table, k);
     if (kind == 0) word ^= (uint64_t)1 << bit;
     if (kind == 1) word |= (uint64_t)1 << 29;
     if (kind == 2) word = (word & ~(uint64_t)0x1fffffff) | (word >> 29 & 0x1fffffff);
-    word = __builtin_bswap64(word);
-    memcpy(table + 8 * k, &word, 8);
+    put_word(table, k, word);
 }
 
 /* Damage i of DAMAGED: a wrong length, a short sheet or out memory, the header, or a record. */
@@ -108,7 +152,7 @@ static void restore(const struct table *t, struct pair *p, enum operation op)
     for (int side = 0; side < SIDES; side++) {
         memcpy((uint8_t *)p->of[side].table, t->bytes, t->len);
         p->of[side].table_len = t->len;
-        lend_for(&p->of[side], op, t->count);
+        lend_for(&p->of[side], op, t);
     }
 }
 
@@ -116,13 +160,17 @@ unsigned compare(const struct table *t)
 {
     struct pair p = {{lend(t), lend(t)}, t->count, 0};
     for (int op = 0; op < OPERATIONS; op++) {
-        restore(t, &p, op);
-        for (int i = 0; i < CALLS; i++) compare_call(t, &p, op, numbers_of(op, t, &p, i));
+        for (int i = 0; i < CALLS; i++) {
+            restore(t, &p, op);
+            struct numbers x = numbers_of(op, t, &p, i);
+            if (is_list(op)) change_list(&p, list_of(t, &p, i));
+            compare_call(t, &p, op, x);
+        }
         for (int i = 0; i < DAMAGED; i++) {
+            restore(t, &p, op);
             struct numbers x = draw_numbers(op, t, &p.of[PLAIN], &p.seed);
             damage(t, &p, i);
             compare_call(t, &p, op, x);
-            restore(t, &p, op);
         }
     }
     give_back(&p.of[OURS]);

@@ -14,7 +14,7 @@ static void count_workload(enum workload w)
     for (int op = 0; op < OPERATIONS; op++) {
         struct numbers x[COUNTED_CALLS];
         uint64_t seed = op + 1;
-        lend_for(&m, op, t.count);
+        lend_for(&m, op, &t);
         for (int i = 0; i < COUNTED_CALLS; i++) x[i] = draw_numbers(op, &t, &m, &seed);
         for (int side = 0; side < SIDES; side++) {
             char name[64];

@@ -12,6 +12,16 @@ static uint8_t *pages(size_t len)
     return memset(p, 0, whole);
 }
 
+static size_t part_room(const struct table *t)
+{
+    return 8 * ((size_t)t->count + 128);
+}
+
+size_t out_room(const struct table *t)
+{
+    return part_room(t) > 8 * ITEMS ? part_room(t) : 8 * ITEMS;
+}
+
 struct lent lend(const struct table *t)
 {
     struct lent m = {0};
@@ -19,29 +29,46 @@ struct lent lend(const struct table *t)
     memcpy(table, t->bytes, t->len);
     m.table = table;
     m.table_len = t->len;
+    m.ranks = pages(8 * ITEMS);
     m.sheet = pages(sheet_len_of(PART_WRITE, t->count));
-    m.out = pages(8 * ((size_t)t->count + 128));
-    lend_for(&m, PART_WRITE, t->count);
+    m.out = pages(out_room(t));
+    m.answer = (uint64_t *)pages(ANSWER);
+    lend_for(&m, PART_WRITE, t);
     return m;
 }
 
-void lend_for(struct lent *m, enum operation op, uint32_t count)
+/* ITEMS ascending numbers: drawn over the whole count, or neighbours in its middle. A small table's own are repeated. */
+static void write_list(enum operation op, const struct table *t, uint8_t *ranks)
 {
-    m->sheet_len = sheet_len_of(op, count);
-    m->out_len = 8 * ((size_t)count + 128);
+    uint64_t words[ITEMS], seed = op + 1, first = t->total > ITEMS ? (t->total - ITEMS) / 2 : 0;
+    for (uint64_t i = 0; i < ITEMS; i++)
+        words[i] = op == LIST_SPREAD ? next_random(&seed) % t->total : first + (i < t->total ? i : t->total - 1);
+    sort_words(words, ITEMS);
+    for (uint64_t i = 0; i < ITEMS; i++) put_word(ranks, i, words[i]);
+}
+
+void lend_for(struct lent *m, enum operation op, const struct table *t)
+{
+    m->sheet_len = sheet_len_of(op, t->count);
+    m->ranks_len = is_list(op) ? 8 * ITEMS : 0;
+    m->out_len = is_list(op) ? 8 * ITEMS : part_room(t);
+    if (is_list(op)) write_list(op, t, m->ranks);
 }
 
 void give_back(struct lent *m)
 {
     free((void *)m->table);
+    free(m->ranks);
     free(m->sheet);
     free(m->out);
+    free(m->answer);
 }
 
 struct numbers draw_numbers(enum operation op, const struct table *t, const struct lent *m, uint64_t *seed)
 {
     uint64_t r = next_random(seed), rank = r % t->total;
     if (op == PART_WRITE) return (struct numbers){PARTS, PART};
+    if (is_list(op)) return (struct numbers){0, 0};
     if (op == UNRANK) return (struct numbers){rank, 0};
     if (op == TEST && next_random(seed) >> 63) return (struct numbers){r >> (64 - t->settings), 0};
     return (struct numbers){call(PLAIN, UNRANK, m, (struct numbers){rank, 0}), 0};

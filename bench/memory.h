@@ -5,12 +5,16 @@
 #include "calls.h"
 #include "tables.h"
 
-#define GUARD 64 /* bytes behind the sheet and the out memory that no call may touch */
+#define GUARD 64 /* bytes behind each memory that no call may touch */
+#define ANSWER 24 /* bytes of a list's answer */
 
-/* Memory for any operation on this table; the lengths lent are set for one operation. */
+/* Memory for any operation on this table; the lengths lent and the list are set for one operation. */
 struct lent lend(const struct table *t);
-void lend_for(struct lent *m, enum operation op, uint32_t count);
+void lend_for(struct lent *m, enum operation op, const struct table *t);
 void give_back(struct lent *m);
+
+/* The bytes of out memory: for every part of the table, and for ITEMS setups. */
+size_t out_room(const struct table *t);
 
 /* Numbers for a timed call: every rank is below C, every setup that is ranked is permitted, and
  * of those tested about half are picked for it. Uses the table and the sheet of `m`. */

@@ -8,6 +8,8 @@
 #define INSTRUCTION_BAR 1.5
 #define PART_WRITE_BAR 2.0
 #define BUDDY_BAR 20.0
+#define LIST_BAR 300.0      /* single calls / the list */
+#define ROW_BAR (1.0 / 3.0) /* numbers in a row / spread */
 
 /* The processor's model, of /proc/cpuinfo. */
 static void print_machine(void)
@@ -26,16 +28,16 @@ static void print_medians(const struct results *r)
 {
     printf("## Times\n\n"
            "Medians in µs a call, ours and plain C by turns, of the quietest of five passes; ratio = ours / plain C.\n"
-           "Part-write writes part %d of %d.\n"
-           "Warm: the same memory again and again. Cleared: before each call sheet and out memory are zeroed, and they\n"
-           "and the table are flushed from the caches.\n\n"
-           "| table       |      N | operation  | ours warm | plain warm | ratio | ours cleared | plain cleared | ratio |\n"
-           "|-------------|-------:|------------|----------:|-----------:|------:|-------------:|--------------:|------:|\n",
-           PART, PARTS);
+           "Part-write writes part %d of %d. A list has %d numbers, drawn over the whole count, or neighbours in its middle.\n"
+           "Warm: the same memory again and again. Cleared: before each call sheet and out memory are zeroed, and they,\n"
+           "the table and the list are flushed from the caches.\n\n"
+           "| table       |      N | operation     | ours warm | plain warm | ratio | ours cleared | plain cleared | ratio |\n"
+           "|-------------|-------:|---------------|----------:|-----------:|------:|-------------:|--------------:|------:|\n",
+           PART, PARTS, ITEMS);
     for (int w = 0; w < WORKLOADS; w++)
         for (int op = 0; op < OPERATIONS; op++) {
             const double *a = r->micros[w][op][WARM], *c = r->micros[w][op][CLEARED];
-            printf("| %-11s | %6u | %-10s | %9.2f | %10.2f | %5.2f | %12.2f | %13.2f | %5.2f |\n", r->table[w].name,
+            printf("| %-11s | %6u | %-13s | %9.2f | %10.2f | %5.2f | %12.2f | %13.2f | %5.2f |\n", r->table[w].name,
                    r->table[w].count, operation_name(op), a[OURS], a[PLAIN], a[OURS] / a[PLAIN], c[OURS], c[PLAIN],
                    c[OURS] / c[PLAIN]);
         }
@@ -46,13 +48,13 @@ static void print_instructions(const struct results *r)
 {
     printf("## Instructions\n\n"
            "Instructions a call, counted by callgrind, libc's included: the noise-free ratio.\n\n"
-           "| table       | operation  |     ours |  plain C | ratio |\n"
-           "|-------------|------------|---------:|---------:|------:|\n");
+           "| table       | operation     |     ours |  plain C | ratio |\n"
+           "|-------------|---------------|---------:|---------:|------:|\n");
     for (int w = 0; w < WORKLOADS; w++)
         for (int op = 0; op < OPERATIONS; op++) {
             const double *i = r->instructions[w][op];
             if (i[OURS] > 0)
-                printf("| %-11s | %-10s | %8.0f | %8.0f | %5.2f |\n", r->table[w].name, operation_name(op), i[OURS], i[PLAIN],
+                printf("| %-11s | %-13s | %8.0f | %8.0f | %5.2f |\n", r->table[w].name, operation_name(op), i[OURS], i[PLAIN],
                        i[OURS] / i[PLAIN]);
         }
     printf("\n");
@@ -74,20 +76,39 @@ static void print_buddy(const struct results *r)
     printf("\n");
 }
 
+/* A line of the bars. `bound` is "≤", "<" or "≥", or empty where no bar was set. */
+static void print_bar(const char *operation, const char *what, const char *bound, double bar, double measured)
+{
+    int holds = !strcmp(bound, "≥") ? measured >= bar : !strcmp(bound, "<") ? measured < bar : measured <= bar;
+    if (*bound)
+        printf("| %-13s %-39s | %s %6.2f | %8.2f | %-7s |\n", operation, what, bound, bar, measured, holds ? "holds" : "missed");
+    else
+        printf("| %-13s %-39s |          | %8.2f |         |\n", operation, what, measured);
+}
+
+/* The list beside single calls, and what its numbers cost where they are neighbours. */
+static void print_list_bars(const struct results *r)
+{
+    double unrank = r->instructions[WIDE][UNRANK][OURS], count = r->instructions[WIDE][COUNT][OURS];
+    double spread = r->instructions[WIDE][LIST_SPREAD][OURS], row = r->instructions[WIDE][LIST_ROW][OURS];
+    double singly = r->micros[WIDE][UNRANK][WARM][OURS], at_once = r->micros[WIDE][LIST_SPREAD][WARM][OURS];
+    print_bar("list spread", "single unranks / list, instructions", "≥", LIST_BAR, ITEMS * unrank / spread);
+    print_bar("list spread", "single unranks / list, time warm", "≥", LIST_BAR, ITEMS * singly / at_once);
+    print_bar("list in a row", "row / spread, instructions", "", 0, row / spread);
+    print_bar("list in a row", "row / spread, instructions less count's", "<", ROW_BAR, (row - count) / (spread - count));
+}
+
 static void print_bars(const struct results *r)
 {
-    double buddy = r->buddy[WIDE][WHOLE] / r->buddy[WIDE][BESIDE];
     printf("## The bars, on the wide table\n\n"
-           "| what                                         | bar    | measured | verdict |\n"
-           "|----------------------------------------------|--------|---------:|---------|\n");
-    for (int op = 0; op < OPERATIONS; op++) {
-        double ratio = r->instructions[WIDE][op][OURS] / r->instructions[WIDE][op][PLAIN];
-        double bar = op == PART_WRITE ? PART_WRITE_BAR : INSTRUCTION_BAR;
-        printf("| %-10s ours / plain C in instructions    | ≤ %4.1f | %8.2f | %-7s |\n", operation_name(op), bar, ratio,
-               ratio <= bar ? "holds" : "missed");
-    }
-    printf("| %-44s | ≥ %4.1f | %8.2f | %-7s |\n", "count      BuDDy's whole job / ours", BUDDY_BAR, buddy,
-           buddy >= BUDDY_BAR ? "holds" : "missed");
+           "| what                                                  | bar      | measured | verdict |\n"
+           "|-------------------------------------------------------|----------|---------:|---------|\n");
+    for (int op = 0; op < OPERATIONS; op++)
+        print_bar(operation_name(op), "ours / plain C, instructions", op == LIST_ROW ? "" : "≤",
+                  op == PART_WRITE ? PART_WRITE_BAR : INSTRUCTION_BAR,
+                  r->instructions[WIDE][op][OURS] / r->instructions[WIDE][op][PLAIN]);
+    print_list_bars(r);
+    print_bar("count", "BuDDy's whole job / ours", "≥", BUDDY_BAR, r->buddy[WIDE][WHOLE] / r->buddy[WIDE][BESIDE]);
 }
 
 void print_report(const struct results *r)

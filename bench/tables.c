@@ -17,32 +17,32 @@ uint64_t next_random(uint64_t *seed)
     return x ^ x >> 31;
 }
 
-static uint64_t word_at(const struct table *t, uint32_t k)
+uint64_t word_at(const uint8_t *bytes, size_t k)
 {
     uint64_t word;
-    memcpy(&word, t->bytes + 8 * (size_t)k, 8);
+    memcpy(&word, bytes + 8 * k, 8);
     return __builtin_bswap64(word);
 }
 
-static void put_word(struct table *t, uint32_t k, uint64_t word)
+void put_word(uint8_t *bytes, size_t k, uint64_t word)
 {
     word = __builtin_bswap64(word);
-    memcpy(t->bytes + 8 * (size_t)k, &word, 8);
+    memcpy(bytes + 8 * k, &word, 8);
 }
 
 uint32_t height_of(const struct table *t, uint32_t k)
 {
-    return word_at(t, k) >> 58;
+    return word_at(t->bytes, k) >> 58;
 }
 
 uint32_t then_of(const struct table *t, uint32_t k)
 {
-    return word_at(t, k) >> 29 & EDGE;
+    return word_at(t->bytes, k) >> 29 & EDGE;
 }
 
 uint32_t else_of(const struct table *t, uint32_t k)
 {
-    return word_at(t, k) & EDGE;
+    return word_at(t->bytes, k) & EDGE;
 }
 
 static uint64_t word_of(uint64_t height, uint64_t then_edge, uint64_t else_edge)
@@ -56,6 +56,11 @@ static int compare_words(const void *a, const void *b)
     return (x > y) - (x < y);
 }
 
+void sort_words(uint64_t *words, size_t count)
+{
+    qsort(words, count, sizeof *words, compare_words);
+}
+
 static struct table empty_table(const char *name, uint32_t settings)
 {
     struct table t = {name, settings, 0, 0, malloc(8 * (LONGEST + 1)), 0};
@@ -66,14 +71,14 @@ static struct table empty_table(const char *name, uint32_t settings)
 /* Appends these records of one height in ascending order. */
 static void append(struct table *t, uint64_t *words, uint32_t count)
 {
-    qsort(words, count, sizeof *words, compare_words);
-    for (uint32_t i = 0; i < count; i++) put_word(t, ++t->count, words[i]);
+    sort_words(words, count);
+    for (uint32_t i = 0; i < count; i++) put_word(t->bytes, ++t->count, words[i]);
 }
 
 /* The table with its header and its count. */
 static struct table closed(struct table t, uint32_t flag)
 {
-    put_word(&t, 0, word_of(t.settings, t.count, 2 * t.count + flag));
+    put_word(t.bytes, 0, word_of(t.settings, t.count, 2 * t.count + flag));
     t.len = 8 * ((size_t)t.count + 1);
     uint8_t *sheet = malloc(t.len);
     if (!sheet) abort();
@@ -107,7 +112,7 @@ static void add_height(struct table *t, uint32_t height, uint32_t (*edge)[2], ui
     append(t, words, count);
     for (i = 0; i < states; i++) {
         word = record_of(height, edge[i][0], edge[i][1], &flag);
-        for (k = t->count; word && word_at(t, k) != word; k--) {}
+        for (k = t->count; word && word_at(t->bytes, k) != word; k--) {}
         if (word) edge[i][0] = 2 * k + flag;
     }
 }
@@ -115,9 +120,9 @@ static void add_height(struct table *t, uint32_t height, uint32_t (*edge)[2], ui
 static struct table sample_a(void)
 {
     struct table t = empty_table("sample A", 3);
-    put_word(&t, 1, word_of(1, 0, 1));
-    put_word(&t, 2, word_of(2, 2, 3));
-    put_word(&t, 3, word_of(3, 4, 0));
+    put_word(t.bytes, 1, word_of(1, 0, 1));
+    put_word(t.bytes, 2, word_of(2, 2, 3));
+    put_word(t.bytes, 3, word_of(3, 4, 0));
     t.count = 3;
     return closed(t, 0);
 }

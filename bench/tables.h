@@ -19,6 +19,12 @@ struct table {
 /* The next number of a seeded row (splitmix64). */
 uint64_t next_random(uint64_t *seed);
 
+/* Word k of a table or a list: 8 bytes, most significant first. */
+uint64_t word_at(const uint8_t *bytes, size_t k);
+void put_word(uint8_t *bytes, size_t k, uint64_t word);
+
+void sort_words(uint64_t *words, size_t count);
+
 /* The fields of word k: its uppermost six bits, the then-edge and the else-edge. */
 uint32_t height_of(const struct table *t, uint32_t k);
 uint32_t then_of(const struct table *t, uint32_t k);

@@ -41,6 +41,7 @@ static void clear(const struct lent *m)
     memset(m->sheet, 0, m->sheet_len);
     memset(m->out, 0, m->out_len);
     flush(m->table, m->table_len);
+    flush(m->ranks, m->ranks_len);
     flush(m->sheet, m->sheet_len);
     flush(m->out, m->out_len);
     _mm_mfence();
@@ -74,8 +75,8 @@ void time_both(const struct table *t, enum operation op, enum condition c, doubl
     struct numbers x[2 * DRAWN]; /* twice the same, to start anywhere */
     uint64_t seed = op + 1;
     double *values[SIDES], end = now() + seconds, clock = clock_cost();
-    unsigned rounds = 0, batch = c == WARM ? 1 + 2000 / (t->count + 1) : 1;
-    lend_for(&m, op, t->count);
+    unsigned rounds = 0, batch = c == WARM && !is_list(op) ? 1 + 2000 / (t->count + 1) : 1;
+    lend_for(&m, op, t);
     for (int i = 0; i < DRAWN; i++) x[i] = x[i + DRAWN] = draw_numbers(op, t, &m, &seed);
     for (int side = 0; side < SIDES; side++)
         if (!(values[side] = malloc(ROUNDS * sizeof(double)))) abort();

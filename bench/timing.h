@@ -6,7 +6,7 @@
 #include "tables.h"
 
 /* WARM: the same memory again and again. CLEARED: before each call sheet and out memory are zeroed,
- * and they and the table are flushed from the caches. */
+ * and they, the table and the list are flushed from the caches. */
 enum condition { WARM, CLEARED, CONDITIONS };
 
 double now(void); /* seconds */

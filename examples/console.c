@@ -1,13 +1,16 @@
 /*
  * A console over one table: `console TABLEFILE [FOLDER]` reads commands from standard input, one a
- * line.
+ * line of at most 99 characters.
  *     number RANK     prints the setup with this rank, as n binary digits
+ *     numbers FILE    prints the setups of a file of ranks, one a line and none below the one before
+ *                     it, by one call
  *     setup DIGITS    prints the rank of the setup with these binary digits
  *     parts K         writes the K parts of the table to FOLDER (or here), as part0.table,
  *                     part1.table, ..., reads them back and lists the first setups of each: its
  *                     rank in the part, its digits and its rank in the whole table
- * A refusal is printed as `refused 14 at 0`, any other line is answered by `what?`. If there are
- * no settings, `-` stands for the digits of the only setup.
+ * A refusal is printed as `refused 14 at 0`. Any other line is answered by `what?`, and so is a file
+ * with a line that is no number. If there are no settings, `-` stands for the digits of the only
+ * setup.
  */
 #include <inttypes.h>
 #include <limits.h>
@@ -19,6 +22,9 @@
 
 /* How many setups of a part are listed. */
 #define LISTED 4
+
+/* Memory for a line that is read. */
+#define LINE 100
 
 struct book {
     uint8_t *table;
@@ -110,9 +116,28 @@ static int parse(const char *text, unsigned base, uint64_t *number)
     return 1;
 }
 
+/* Reads a line, without its newline; one that does not fit is read as empty. 0 if there is none. */
+static int read_line(FILE *file, char *line)
+{
+    size_t len = 0;
+    int c = getc(file);
+    if (c == EOF)
+        return 0;
+    for (; c != EOF && c != '\n'; c = getc(file))
+        if (len < LINE)
+            line[len++] = (char)c;
+    line[len < LINE ? len : 0] = '\0';
+    return 1;
+}
+
+static void print_refused(uint64_t refusal, uint64_t place)
+{
+    printf("refused %" PRIu64 " at %" PRIu64 "\n", refusal, place);
+}
+
 static void print_refusal(uint64_t answer)
 {
-    printf("refused %u at %lu\n", setupbook_refusal(answer), setupbook_place(answer));
+    print_refused(setupbook_refusal(answer), setupbook_place(answer));
 }
 
 static void print_setup(uint64_t setup, unsigned n)
@@ -123,15 +148,19 @@ static void print_setup(uint64_t setup, unsigned n)
         putchar(setup >> --n & 1 ? '1' : '0');
 }
 
+static void print_line(const struct book *book, uint64_t setup)
+{
+    print_setup(setup, settings(book));
+    putchar('\n');
+}
+
 static void answer_number(const struct book *book, uint64_t rank)
 {
     uint64_t answer = setup_of(book, rank);
-    if (setupbook_is_refusal(answer)) {
+    if (setupbook_is_refusal(answer))
         print_refusal(answer);
-    } else {
-        print_setup(answer, settings(book));
-        putchar('\n');
-    }
+    else
+        print_line(book, answer);
 }
 
 static void answer_setup(const struct book *book, uint64_t setup)
@@ -141,6 +170,78 @@ static void answer_setup(const struct book *book, uint64_t setup)
         print_refusal(answer);
     else
         printf("%" PRIu64 "\n", answer);
+}
+
+/* Item i of a list: 8 bytes, most significant first. */
+static void put_item(uint8_t *list, size_t i, uint64_t number)
+{
+    int byte;
+    for (byte = 7; byte >= 0; byte--, number >>= 8)
+        list[8 * i + byte] = (uint8_t)number;
+}
+
+static uint64_t item_of(const uint8_t *list, size_t i)
+{
+    uint64_t number = 0;
+    int byte;
+    for (byte = 0; byte < 8; byte++)
+        number = number << 8 | list[8 * i + byte];
+    return number;
+}
+
+/* 1 if the file could be read. It is at its start again afterwards. */
+static int count_lines(FILE *file, size_t *lines)
+{
+    char line[LINE];
+    for (*lines = 0; read_line(file, line); ++*lines)
+        ;
+    return !ferror(file) && fseek(file, 0, SEEK_SET) == 0;
+}
+
+/* 1 if the next lines of the file are as many ranks. */
+static int read_ranks(FILE *file, uint8_t *ranks, size_t items)
+{
+    char line[LINE];
+    uint64_t rank;
+    size_t i;
+    for (i = 0; i < items; i++) {
+        if (!read_line(file, line) || !parse(line, 10, &rank))
+            return 0;
+        put_item(ranks, i, rank);
+    }
+    return 1;
+}
+
+/* One call for the whole list. */
+static void answer_list(const struct book *book, const uint8_t *ranks, uint8_t *setups, size_t items)
+{
+    uint64_t answer[3];
+    uint64_t refusal = setupbook_unrank_list(book->table, book->table_len, ranks, 8 * items,
+                                             book->sheet, book->sheet_len, setups, 8 * items, answer);
+    size_t i;
+    if (refusal != 0)
+        print_refused(refusal, answer[0]);
+    else
+        for (i = 0; i < items; i++)
+            print_line(book, item_of(setups, i));
+}
+
+static void answer_numbers(const struct book *book, const char *path)
+{
+    FILE *file = fopen(path, "r");
+    size_t items = 0;
+    int readable = file != NULL && count_lines(file, &items);
+    uint8_t *ranks = allocate(8 * items), *setups = allocate(8 * items);
+    if (!readable || ranks == NULL || setups == NULL)
+        fprintf(stderr, "console: cannot read %s\n", path);
+    else if (read_ranks(file, ranks, items))
+        answer_list(book, ranks, setups, items);
+    else
+        puts("what?");
+    free(ranks);
+    free(setups);
+    if (file != NULL)
+        fclose(file);
 }
 
 /* Lists the first setups of a part, and `more` if some are left. */
@@ -200,6 +301,8 @@ static void answer_line(const struct book *book, const char *folder, const char 
     uint64_t given;
     if (strncmp(line, "number ", 7) == 0 && parse(line + 7, 10, &given))
         answer_number(book, given);
+    else if (strncmp(line, "numbers ", 8) == 0)
+        answer_numbers(book, line + 8);
     else if (strncmp(line, "setup ", 6) == 0 && parse(line + 6, 2, &given))
         answer_setup(book, given);
     else if (strcmp(line, "setup -") == 0 && settings(book) == 0)
@@ -210,24 +313,10 @@ static void answer_line(const struct book *book, const char *folder, const char 
         puts("what?");
 }
 
-/* Reads a line, without its newline; one that does not fit is read as empty. 0 if there is none. */
-static int read_line(char *line, size_t size)
-{
-    size_t len = 0;
-    int c = getchar();
-    if (c == EOF)
-        return 0;
-    for (; c != EOF && c != '\n'; c = getchar())
-        if (len < size)
-            line[len++] = (char)c;
-    line[len < size ? len : 0] = '\0';
-    return 1;
-}
-
 int main(int argc, char **argv)
 {
     struct book book;
-    char line[100];
+    char line[LINE];
     int readable;
 
     if (argc != 2 && argc != 3) {
@@ -235,7 +324,7 @@ int main(int argc, char **argv)
         return 1;
     }
     readable = read_book(&book, argv[1]);
-    while (readable && read_line(line, sizeof line))
+    while (readable && read_line(stdin, line))
         answer_line(&book, argc == 3 ? argv[2] : ".", line);
     free_book(&book);
     return readable ? 0 : 1;

@@ -1,5 +1,5 @@
 /*
- * The setup book: rank, unrank and part-write over a reduced OBDD with complement edges.
+ * The setup book: rank, unrank, unrank a list and part-write over a reduced OBDD with complement edges.
  *
  * A table is a decision diagram over n settings (0 to 63) with N nodes (0 to 65,535) as a row of
  * N + 1 words of 64 bits, most significant byte first; docs/FORMAT.md has the fields. It permits
@@ -12,26 +12,33 @@
  * that permits these setups only, with the fewest nodes that such a table can have, N' (none if the
  * part is empty).
  *
- * Memory: `table` has table_len bytes and is only read. `sheet` is a work sheet of sheet_len bytes:
- * 8 * (N + 1) are needed, as many as an accepted table has, and for part-write 8 * (4 * N + 512).
- * `out` receives the part: 8 * (N' + 1) of its out_len bytes are needed. These memories share no
- * byte, and nobody else writes them during a call. No pointer is null; none needs an alignment.
- * Lengths and contents may be any: there is nothing to check before a call. A call allocates
- * nothing, keeps nothing and takes about 70 KiB of stack.
+ * A list is a row of numbers of 8 bytes, most significant byte first; up to seven spare bytes at its
+ * end are ignored.
+ *
+ * Memory: `table` has table_len bytes and is only read, and so is the list `ranks`. `sheet` is a work
+ * sheet of sheet_len bytes: 8 * (N + 1) are needed, as many as an accepted table has, and for
+ * part-write 8 * (4 * N + 512). `out` receives the part: 8 * (N' + 1) of its out_len bytes are needed.
+ * `setups` receives a list as long as `ranks`. These memories share no byte, and nobody else writes
+ * them during a call. No pointer is null; none needs an alignment but `answer`, that of its numbers.
+ * Lengths and contents may be any: there is nothing to check before a call. A call allocates nothing,
+ * keeps nothing and takes about 70 KiB of stack.
  *
  * Sheet afterwards, its first N + 1 words (most significant byte first), by what was answered:
  *     refusals 1 to 8, and 10          unchanged
  *     refusal 9                        zero
- *     refusals 11 to 16, or a result   word k is the model count of node k over the settings from
+ *     refusals 11 to 18, or a result   word k is the model count of node k over the settings from
  *                                      its own down to the last; word 0 is 1
  * Words N + 1 to 4 * N + 511 may hold anything after part-write has answered a result, 16 or 11.
  * All other bytes are unchanged. No call depends on what the sheet held before.
  *
- * Out memory afterwards: the part in front, if it was written; all other bytes are unchanged.
+ * Out memory and `setups` afterwards: the part, or the setups, in front, if they were written; all
+ * other bytes are unchanged.
  *
- * Answer: the result, which is below 2^63, or 2^63 + 2^32 * refusal + place. The place is the
- * record k (1 to N) for refusals 4 to 9, otherwise 0. The first refusal that holds is answered,
- * in this order:
+ * Answer, of a function with `answer`: 0, with the result in answer[0], or the number of the refusal,
+ * with its place in answer[0]; the other words of `answer` are 0. Of the others: the result, which is
+ * below 2^63, or 2^63 + 2^32 * refusal + place. The place is the record k (1 to N) for refusals 4 to
+ * 9, the item (from 1) for 17 and for 14 of a list, otherwise 0. The first refusal that holds is
+ * answered, in this order:
  *      1  table_len is under 8
  *      2  N is above 65,535
  *      1  table_len is not 8 * (N + 1)
@@ -46,7 +53,9 @@
  *      9  no record has an edge to record k, which is below N; the lowest such k
  *     12  rank: the setup is 2^n or more
  *     13  rank: the setup is not permitted
- *     14  unrank: the rank is C or more
+ *     18  unrank a list: `setups` has fewer items than `ranks`
+ *     17  unrank a list: a rank is below the one before it; the first such item
+ *     14  unrank: the rank is C or more; of a list, the first such item
  *     15  part-write: k is 0 or above 65,535, or j is k or more
  *     16  part-write: the part needs more than 65,535 nodes
  *     11  part-write: out_len is under 8 * (N' + 1)
@@ -69,6 +78,13 @@ uint64_t setupbook_rank(const uint8_t *table, size_t table_len, uint64_t setup,
 uint64_t setupbook_unrank(const uint8_t *table, size_t table_len, uint64_t rank,
                           uint8_t *sheet, size_t sheet_len);
 
+/* The setups of a list of ranks that never fall, of any length, each as setupbook_unrank gives it.
+ * answer[0] is how many. Refusals 1 to 10, 18, 17, 14. */
+uint64_t setupbook_unrank_list(const uint8_t *table, size_t table_len,
+                               const uint8_t *ranks, size_t ranks_len,
+                               uint8_t *sheet, size_t sheet_len,
+                               uint8_t *setups, size_t setups_len, uint64_t answer[3]);
+
 /* Writes part j of k to `out`. Answers its length in bytes. Refusals 1 to 10, 15, 16, 11. */
 uint64_t setupbook_part_write(const uint8_t *table, size_t table_len, uint64_t k, uint64_t j,
                               uint8_t *sheet, size_t sheet_len, uint8_t *out, size_t out_len);
@@ -82,7 +98,7 @@ static inline size_t setupbook_sheet_len(size_t table_len)
     return 4 * table_len + 4064;
 }
 
-/* 1 if the answer is a refusal, 0 if it is a result. */
+/* 1 if a packed answer is a refusal, 0 if it is a result. */
 static inline int setupbook_is_refusal(uint64_t answer)
 {
     return (int)(answer >> 63);

@@ -2,9 +2,10 @@
 
 use std::time::Instant;
 
-use crate::call::{Answer, Call, Outcome};
+use crate::call::{Answer, Call, List, Outcome};
 use crate::layout::bytes_of;
 use crate::library::Lent;
+use crate::lists;
 use crate::paper;
 use crate::reading::Table;
 use crate::rng::Rng;
@@ -63,7 +64,7 @@ impl Comparison {
     /// One case, in memory that other calls may have used.
     pub fn compare_in(&mut self, call: Call, lent: &mut Lent) -> Outcome {
         let mut expected = paper::expect(call, lent.table(), lent.sheet(), lent.out());
-        let found = lent.run(call);
+        let found = lent.run(&mut self.lending, call);
         let loose = expected.loose;
         expected.outcome.sheet[loose.clone()].copy_from_slice(&found.sheet[loose]);
         if found != expected.outcome {
@@ -80,18 +81,20 @@ impl Comparison {
     /// A call with a sheet and an out memory of random lengths and contents.
     pub fn compare_any(&mut self, call: Call, table: &[u8]) -> Answer {
         let sheet_len = sheets::random_length(&mut self.rng, sheets::needed(call, table));
-        let out_len = match paper::out_needed(call, table) {
-            0 => self.rng.index(20),
-            needed => sheets::random_length(&mut self.rng, needed),
-        };
+        let out_len = sheets::random_length(&mut self.rng, paper::out_needed(call, table));
         self.compare_lengths(call, table, sheet_len, out_len).answer
     }
 
     /// A call with a sheet and an out memory that are long enough.
     pub fn compare_served(&mut self, call: Call, table: &[u8]) -> Answer {
+        self.outcome_served(call, table).answer
+    }
+
+    /// The same, with what it leaves behind.
+    pub fn outcome_served(&mut self, call: Call, table: &[u8]) -> Outcome {
         let sheet_len = sheets::served_length(&mut self.rng, sheets::needed(call, table));
         let out_len = sheets::served_length(&mut self.rng, paper::out_needed(call, table));
-        self.compare_lengths(call, table, sheet_len, out_len).answer
+        self.compare_lengths(call, table, sheet_len, out_len)
     }
 
     /// Writes a part, with a sheet and an out memory that are just long enough. Gives back its
@@ -116,15 +119,20 @@ impl Comparison {
         self.compare(call, table, &sheet, &out)
     }
 
-    /// All operations, with setups, ranks and parts at the borders and random ones, each with
-    /// memories of its own.
+    /// All operations, with setups, ranks, lists and parts at the borders and random ones, each
+    /// with memories of its own.
     pub fn compare_all(&mut self, table: &[u8]) {
         let mut calls = vec![Call::Check, Call::Count];
         for setup in self.setups(table) {
             calls.extend([Call::Test { setup }, Call::Rank { setup }]);
         }
-        for rank in self.ranks(table) {
+        let ranks = self.ranks(table);
+        for &rank in &ranks {
             calls.push(Call::Unrank { rank });
+        }
+        let lists = self.lists(ranks);
+        for list in &lists {
+            calls.push(Call::UnrankList { ranks: List(list) });
         }
         for _ in 0..3 {
             let (k, j) = random_part(&mut self.rng);
@@ -167,6 +175,20 @@ impl Comparison {
         }
         ranks
     }
+
+    /// All of the numbers in their order, some of the lower ones in their order, and some of all.
+    fn lists(&mut self, mut numbers: Vec<u64>) -> [Vec<u8>; 3] {
+        let rng = &mut self.rng;
+        let mut some_of = |numbers: &[u64]| -> Vec<u64> {
+            let len = rng.below(8);
+            (0..len).map(|_| rng.pick(numbers)).collect()
+        };
+        numbers.sort();
+        let mut lower = some_of(&numbers[..numbers.len() / 2]);
+        lower.sort();
+        let any = some_of(&numbers);
+        [numbers, lower, any].map(|items| lists::with_spare(rng, &items))
+    }
 }
 
 /// Both answers, and where the memories differ.
@@ -196,7 +218,7 @@ pub fn difference(expected: &Outcome, found: &Outcome) -> String {
 
 /// The part that a call has written; it has not been refused.
 pub fn front(outcome: &Outcome) -> &[u8] {
-    &outcome.out[..outcome.answer.0 as usize]
+    &outcome.out[..outcome.answer.value() as usize]
 }
 
 /// Every k and j at a border.

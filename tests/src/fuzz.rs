@@ -4,9 +4,10 @@
 use std::fmt;
 use std::time::{Duration, Instant};
 
-use crate::call::{describe, Answer, Call, Outcome};
+use crate::call::{describe, Answer, Call, List, Outcome};
 use crate::comparison::{difference, random_part};
 use crate::library;
+use crate::lists;
 use crate::pages::{self, Guard, Pages};
 use crate::paper::{self, Expected};
 use crate::raw::{self, Source};
@@ -17,6 +18,7 @@ use crate::tally::{is_listed_answer, Tally};
 /// The longest sheet: part-write's for the longest table, and some bytes more.
 const LONGEST_SHEET: usize = 4 * raw::LONGEST + 8 * 512 + 4096;
 const LONGEST_OUT: usize = raw::LONGEST + 8 * 256 + 4096;
+const MOST_ITEMS: u64 = 20_000;
 /// How many differences are printed in full.
 const PRINTED: u64 = 5;
 
@@ -75,6 +77,7 @@ struct Fuzz {
     source: Source,
     contents: [Vec<u8>; 3],
     table: Pages,
+    list: Pages,
     sheet: Pages,
     out: Pages,
     tally: Tally,
@@ -95,6 +98,7 @@ impl Fuzz {
                 rng.bytes(LONGEST_SHEET),
             ],
             table: Pages::new(raw::LONGEST + 8),
+            list: Pages::new(8 * MOST_ITEMS as usize + 8),
             sheet: Pages::new(LONGEST_SHEET),
             out: Pages::new(LONGEST_OUT),
             tally: Tally::default(),
@@ -107,7 +111,9 @@ impl Fuzz {
     fn call(&mut self, number: u64) -> Result<(), String> {
         let mut rng = Rng::new(self.seed ^ number.wrapping_mul(0xD134_2543_DE82_EF95));
         let (table, is_raw) = self.source.table(&mut rng);
-        let call = any_call(&mut rng, &table);
+        let limit = 1 << table.first().map_or(0, |byte| byte / 4);
+        let list = list(&mut rng, limit);
+        let call = any_call(&mut rng, limit, List(&list));
         let (sheet_len, out_len) = lengths(&mut rng, call, &table);
         let [sheet, out] = [sheet_len, out_len].map(|len| content(&mut rng, &self.contents, len));
         let expected = paper::expect(call, &table, sheet, out);
@@ -117,10 +123,11 @@ impl Fuzz {
             _ => Guard::Before,
         };
         self.table.put(&table, guard);
+        self.list.put(call.list().0, guard);
         self.sheet.put(sheet, guard);
         self.out.put(out, guard);
         pages::set_under_way(number);
-        let answer = Answer(self.lend(call));
+        let answer = self.lend(call);
         self.note(call, &expected, is_raw);
         self.compare(call, &table, answer, expected)
             .map_err(|text| {
@@ -141,13 +148,16 @@ impl Fuzz {
         }
     }
 
-    /// The library's answer. The table cannot be written meanwhile.
-    fn lend(&mut self, call: Call) -> u64 {
-        let (table, sheet, out) = (self.table.lend(), self.sheet.lend(), self.out.lend());
+    /// The library's answer. The table and the list cannot be written meanwhile.
+    fn lend(&mut self, call: Call) -> Answer {
+        let (table, list) = (self.table.lend(), self.list.lend());
+        let (sheet, out) = (self.sheet.lend(), self.out.lend());
         self.table.let_write(false);
-        // SAFETY: each pointer is valid for its length, and the three memories lie apart.
-        let answer = unsafe { library::call_with(call, table, sheet, out) };
+        self.list.let_write(false);
+        // SAFETY: each pointer is valid for its length, and the four memories lie apart.
+        let answer = unsafe { library::call_with(call, table, list, sheet, out) };
         self.table.let_write(true);
+        self.list.let_write(true);
         answer
     }
 
@@ -181,8 +191,9 @@ impl Fuzz {
                 "an answer that is not listed",
             ),
             (self.table.content() == table, "the table has changed"),
+            (self.list.content() == call.list().0, "the list has changed"),
             (
-                [&self.table, &self.sheet, &self.out]
+                [&self.table, &self.list, &self.sheet, &self.out]
                     .iter()
                     .all(|pages| pages.beside_unchanged()),
                 "bytes beside a memory have changed",
@@ -195,19 +206,19 @@ impl Fuzz {
     }
 }
 
-/// Any operation with any numbers.
-fn any_call(rng: &mut Rng, table: &[u8]) -> Call {
-    let limit = 1 << table.first().map_or(0, |byte| byte / 4);
+/// Any operation with any numbers, or with this list.
+fn any_call<'a>(rng: &mut Rng, limit: u64, list: List<'a>) -> Call<'a> {
     let number = number(rng, limit);
     let (k, j) = part(rng, limit);
-    match rng.below(8) {
+    match rng.below(9) {
         0 => Call::Check,
         1 => Call::Count,
         2 => Call::Test { setup: number },
         3 => Call::Rank { setup: number },
         4 => Call::Unrank { rank: number },
-        5 => Call::SpanStart { k, j },
-        6 => Call::SpanSize { k, j },
+        5 => Call::UnrankList { ranks: list },
+        6 => Call::SpanStart { k, j },
+        7 => Call::SpanSize { k, j },
         _ => Call::PartWrite { k, j },
     }
 }
@@ -237,6 +248,25 @@ fn part(rng: &mut Rng, limit: u64) -> (u64, u64) {
     }
 }
 
+/// A list of any length, most are short.
+fn list(rng: &mut Rng, limit: u64) -> Vec<u8> {
+    let len = match rng.below(2048) {
+        0 => rng.between(8_000, MOST_ITEMS),
+        1..=40 => rng.below(500),
+        41..=250 => 0,
+        251..=700 => 1,
+        _ => rng.between(2, 9),
+    };
+    let top = number(rng, limit).max(1);
+    let item = |rng: &mut Rng| match rng.below(32) {
+        0 => number(rng, limit),
+        _ => rng.below(top),
+    };
+    let items = (0..len).map(|_| item(rng)).collect();
+    let other = number(rng, limit);
+    lists::mostly_in_order(rng, items, other)
+}
+
 /// The lengths of sheet and out memory: about what the call needs, or any.
 fn lengths(rng: &mut Rng, call: Call, table: &[u8]) -> (usize, usize) {
     let sheet = match rng.below(8) {
@@ -244,11 +274,10 @@ fn lengths(rng: &mut Rng, call: Call, table: &[u8]) -> (usize, usize) {
         _ => sheets::random_length(rng, sheets::needed(call, table)),
     };
     let out = match call {
-        Call::PartWrite { .. } if rng.chance(50) => match paper::out_needed(call, table) {
-            0 => rng.index(20),
-            needed => sheets::random_length(rng, needed),
-        },
-        Call::PartWrite { .. } => rng.index(table.len() + 600),
+        Call::PartWrite { .. } if rng.chance(50) => rng.index(table.len() + 600),
+        Call::PartWrite { .. } | Call::UnrankList { .. } => {
+            sheets::random_length(rng, paper::out_needed(call, table))
+        }
         _ => 0,
     };
     (sheet, out)

@@ -7,7 +7,8 @@
 //! - `diagram`: diagrams without flags, from which tables are written
 //! - `library`: the library under test; `memory`: what is lent to it, guarded; `program`: the
 //!   programs, run
-//! - `tables`: accepted tables; `damage`: tables with faults; `sheets`: sheets and out memories
+//! - `tables`: accepted tables; `damage`: tables with faults; `sheets`: sheets and out memories;
+//!   `lists`: lists of numbers
 //! - `layout`: words, bytes and the fields of a word
 //! - `comparison`: runs a call on both sides; `tally`: which cases have been met
 //! - `fuzz`: calls on raw bytes; `raw`: these bytes; `pages`: what is lent, between guard pages
@@ -21,6 +22,7 @@ pub mod fuzz;
 pub mod layout;
 pub mod library;
 pub mod listing;
+pub mod lists;
 pub mod memory;
 pub mod pages;
 pub mod paper;

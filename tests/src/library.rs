@@ -1,5 +1,5 @@
-//! The library under test, called with guarded memory: the table and all guards have to stay
-//! unchanged.
+//! The library under test, called with guarded memory: the table, the list and all guards have to
+//! stay unchanged.
 
 use crate::call::{describe, Answer, Call, Outcome};
 use crate::memory::Memory;
@@ -39,6 +39,17 @@ mod ffi {
             rank: u64,
             sheet: *mut u8,
             sheet_len: usize,
+        ) -> u64;
+        pub fn setupbook_unrank_list(
+            table: *const u8,
+            table_len: usize,
+            ranks: *const u8,
+            ranks_len: usize,
+            sheet: *mut u8,
+            sheet_len: usize,
+            setups: *mut u8,
+            setups_len: usize,
+            answer: *mut u64,
         ) -> u64;
         pub fn setupbook_span_start(
             table: *const u8,
@@ -101,10 +112,13 @@ impl Lent {
         self.out.content()
     }
 
-    pub fn run(&mut self, call: Call) -> Outcome {
-        let answer = self.call(call);
+    /// The random numbers place and guard the call's list, which is lent for this call only.
+    pub fn run(&mut self, rng: &mut Rng, call: Call) -> Outcome {
+        let mut list = Memory::new(call.list().0, rng);
+        let answer = self.call(call, &mut list);
         for (unchanged, what) in [
             (self.table.is_unchanged(), "the table has"),
+            (list.is_unchanged(), "the list has"),
             (self.sheet.guards_unchanged(), "bytes beside the sheet have"),
             (
                 self.out.guards_unchanged(),
@@ -114,7 +128,7 @@ impl Lent {
             assert!(unchanged, "{what} changed\n{}", self.describe(call));
         }
         Outcome {
-            answer: Answer(answer),
+            answer,
             sheet: self.sheet().to_vec(),
             out: self.out().to_vec(),
         }
@@ -126,33 +140,53 @@ impl Lent {
         describe(self.seed, call, self.table(), sheet_len, out_len)
     }
 
-    fn call(&mut self, call: Call) -> u64 {
+    fn call(&mut self, call: Call, list: &mut Memory) -> Answer {
         let (table, sheet, out) = (self.table.lend(), self.sheet.lend(), self.out.lend());
-        // SAFETY: each pointer is valid for its length, and the three memories lie apart.
-        unsafe { call_with(call, table, sheet, out) }
+        // SAFETY: each pointer is valid for its length, and the four memories lie apart.
+        unsafe { call_with(call, table, list.lend(), sheet, out) }
     }
 }
 
-/// The library's answer to a call with these memories: pointers and lengths.
+/// The library's answer to a call with these memories: pointers and lengths. The second memory is
+/// where the call's list lies.
 ///
 /// # Safety
 ///
-/// Each pointer is valid for its length, for writing too but for the table's, and the three
-/// memories lie apart.
+/// Each pointer is valid for its length, for writing too but for the table's and the list's, and
+/// the four memories lie apart.
 pub unsafe fn call_with(
     call: Call,
     (t, t_len): (*mut u8, usize),
+    (l, l_len): (*mut u8, usize),
     (s, s_len): (*mut u8, usize),
     (o, o_len): (*mut u8, usize),
-) -> u64 {
-    match call {
+) -> Answer {
+    Answer::unpacked(match call {
         Call::Check => ffi::setupbook_check(t, t_len, s, s_len),
         Call::Count => ffi::setupbook_count(t, t_len, s, s_len),
         Call::Test { setup } => ffi::setupbook_test(t, t_len, setup, s, s_len),
         Call::Rank { setup } => ffi::setupbook_rank(t, t_len, setup, s, s_len),
         Call::Unrank { rank } => ffi::setupbook_unrank(t, t_len, rank, s, s_len),
+        Call::UnrankList { .. } => {
+            return in_words(|answer| {
+                ffi::setupbook_unrank_list(t, t_len, l, l_len, s, s_len, o, o_len, answer)
+            })
+        }
         Call::SpanStart { k, j } => ffi::setupbook_span_start(t, t_len, k, j, s, s_len),
         Call::SpanSize { k, j } => ffi::setupbook_span_size(t, t_len, k, j, s, s_len),
         Call::PartWrite { k, j } => ffi::setupbook_part_write(t, t_len, k, j, s, s_len, o, o_len),
-    }
+    })
+}
+
+const UNWRITTEN: u64 = 0xA5A5_A5A5_A5A5_A5A5;
+
+/// The answer of a function that writes three words and returns a status. A word on each side of
+/// the three has to stay.
+fn in_words(function: impl FnOnce(*mut u64) -> u64) -> Answer {
+    let mut memory = [UNWRITTEN; 5];
+    let status = function(memory.as_mut_ptr().wrapping_add(1));
+    let [before, words @ .., behind] = memory;
+    let beside = [before, behind];
+    assert_eq!(beside, [UNWRITTEN; 2], "words beside the answer");
+    Answer { status, words }
 }

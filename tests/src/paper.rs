@@ -3,7 +3,7 @@
 
 use std::ops::Range;
 
-use crate::call::{Answer, Call, Outcome, Refusal};
+use crate::call::{Answer, Call, List, Outcome, Refusal};
 use crate::layout::bytes_of;
 use crate::part;
 use crate::reading::Table;
@@ -26,6 +26,9 @@ pub fn expect(call: Call, table: &[u8], sheet: &[u8], out: &[u8]) -> Expected {
     let own = examiner_refusal(call, n, settled.as_ref())
         .or_else(|| part_refusal(part.as_deref()?, out.len()));
     refusals.extend(own.map(|number| Refusal { number, place: 0 }));
+    if let Call::UnrankList { ranks } = call {
+        refusals.extend(list_refusals(ranks, settled.as_ref(), out.len()));
+    }
 
     let first = refusals.first().copied();
     let mut sheet = sheet.to_vec();
@@ -33,10 +36,14 @@ pub fn expect(call: Call, table: &[u8], sheet: &[u8], out: &[u8]) -> Expected {
     let loose = settled
         .as_ref()
         .map_or(0..0, |settled| settled.leave_sheet(call, first, &mut sheet));
-    let answer = match (first, part) {
-        (Some(refusal), _) => Answer::refused(refusal),
-        (None, Some(part)) => Answer(put_words(&mut out, &part)),
-        (None, None) => Answer(settled.unwrap().result(call)),
+    let answer = match (first, part, call) {
+        (Some(refusal), ..) => Answer::refused(refusal),
+        (None, Some(part), _) => Answer::result(put_words(&mut out, &part)),
+        (None, None, Call::UnrankList { ranks }) => {
+            let setups = settled.unwrap().setups(ranks);
+            Answer::result(put_words(&mut out, &setups) / 8)
+        }
+        (None, None, _) => Answer::result(settled.unwrap().result(call)),
     };
     let outcome = Outcome { answer, sheet, out };
     Expected {
@@ -46,15 +53,18 @@ pub fn expect(call: Call, table: &[u8], sheet: &[u8], out: &[u8]) -> Expected {
     }
 }
 
-/// The length that a call needs of its out memory: that of the part, if it asks for one and it is
-/// settled, or else 0.
+/// The length that a call needs of its out memory: that of the setups, or that of the part, if it
+/// asks for one and it is settled, or else 0.
 pub fn out_needed(call: Call, table: &[u8]) -> usize {
-    if !matches!(call, Call::PartWrite { .. }) {
-        return 0;
+    match call {
+        Call::UnrankList { ranks } => 8 * ranks.items().len(),
+        Call::PartWrite { .. } => {
+            let faults = table_refusals(call, table, usize::MAX);
+            let part = Settled::read(table, &faults).and_then(|settled| settled.part(call));
+            part.map_or(0, |words| 8 * words.len())
+        }
+        _ => 0,
     }
-    let faults = table_refusals(call, table, usize::MAX);
-    let part = Settled::read(table, &faults).and_then(|settled| settled.part(call));
-    part.map_or(0, |words| 8 * words.len())
 }
 
 /// Those of refusals 1 to 10 that hold, in the paper's order.
@@ -91,12 +101,12 @@ pub fn table_refusals(call: Call, table: &[u8], sheet_len: usize) -> Vec<Refusal
     holding
 }
 
-/// Refusals 12 to 15, of which at most one holds. 13 and 14 speak of the permitted setups: they
-/// hold only if it is settled which these are.
+/// Refusals 12 to 15, of which at most one holds; a list has refusals of its own. 13 and 14 speak
+/// of the permitted setups: they hold only if it is settled which these are.
 fn examiner_refusal(call: Call, n: Option<u8>, settled: Option<&Settled>) -> Option<u64> {
     let outside = |setup| n.is_some_and(|n| setup >= 1u64 << n);
     match call {
-        Call::Check | Call::Count => None,
+        Call::Check | Call::Count | Call::UnrankList { .. } => None,
         Call::Test { setup } | Call::Rank { setup } if outside(setup) => Some(12),
         Call::Test { .. } => None,
         Call::Rank { setup } => settled
@@ -122,6 +132,26 @@ fn part_refusal(part: &[u64], out_len: usize) -> Option<u64> {
     } else {
         (out_len < 8 * part.len()).then_some(11)
     }
+}
+
+/// Those of refusals 18, 17 and 14 that hold of a list, 17 and 14 with the lowest item, from 1, of
+/// which they do. 14 holds only if it is settled how many setups are permitted.
+fn list_refusals(ranks: List, settled: Option<&Settled>, out_len: usize) -> Vec<Refusal> {
+    let items = ranks.items();
+    let total = settled.map(Settled::total);
+    let is_below = |&i: &usize| i > 0 && items[i] < items[i - 1];
+    let is_too_high = |&i: &usize| total.is_some_and(|total| u128::from(items[i]) >= total);
+    let lowest = |index: Option<usize>| index.map(|index| index as u64 + 1);
+    let places = [
+        (18, (out_len / 8 < items.len()).then_some(0)),
+        (17, lowest((0..items.len()).find(is_below))),
+        (14, lowest((0..items.len()).find(is_too_high))),
+    ];
+    let holding = places.into_iter().filter_map(|(number, place)| {
+        let place = place?;
+        Some(Refusal { number, place })
+    });
+    holding.collect()
 }
 
 /// Start and size of part j of k, of `total` setups: a start is the running sum of the sizes.
@@ -193,7 +223,13 @@ impl Settled {
         }
     }
 
-    /// The value that a call answers if nothing is refused and no part is written.
+    /// The setups of a list of numbers, which are all below C: each is the number's own.
+    fn setups(&self, ranks: List) -> Vec<u64> {
+        let setup = |&rank: &u64| self.table.setup_number(rank, &self.counts);
+        ranks.items().iter().map(setup).collect()
+    }
+
+    /// The value that a call answers if nothing is refused and nothing written.
     fn result(&self, call: Call) -> u64 {
         let Settled { table, counts } = self;
         match call {
@@ -204,7 +240,9 @@ impl Settled {
             Call::Unrank { rank } => table.setup_number(rank, counts),
             Call::SpanStart { k, j } => narrow(span(self.total(), k, j).0),
             Call::SpanSize { k, j } => narrow(span(self.total(), k, j).1),
-            Call::PartWrite { .. } => unreachable!("a part is written or refused"),
+            Call::UnrankList { .. } | Call::PartWrite { .. } => {
+                unreachable!("a list or a part is written or refused")
+            }
         }
     }
 }

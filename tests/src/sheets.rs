@@ -22,9 +22,10 @@ pub fn border_lengths(needed: usize) -> Vec<usize> {
     lengths
 }
 
-/// A length of a random class; about two in three are long enough.
+/// A length of a random class; about two in three are long enough. A few bytes, if none is needed.
 pub fn random_length(rng: &mut Rng, needed: usize) -> usize {
     match rng.below(16) {
+        _ if needed == 0 => rng.index(20),
         0 => 0,
         1 => rng.between(1, 7) as usize,
         2 => needed - 1,

@@ -5,17 +5,19 @@ use std::collections::{BTreeMap, BTreeSet};
 use crate::call::{Answer, Call, Refusal};
 
 /// The refusals of every operation in the paper's order; of 1 its second place, since a table
-/// under 8 bytes has no other condition but 15.
+/// under 8 bytes has no other condition but 15, 17 and 18.
 const SHARED: [u64; 10] = [2, 1, 3, 10, 4, 5, 6, 7, 8, 9];
 const RECORD_RULES: [u64; 5] = [4, 5, 6, 7, 8];
+const LAST_REFUSAL: u64 = 18;
 
 /// Each operation with the refusals of its own, which come last.
-const OPERATIONS: [(&str, &[u64]); 8] = [
+const OPERATIONS: [(&str, &[u64]); 9] = [
     ("check", &[]),
     ("count", &[]),
     ("test", &[12]),
     ("rank", &[12, 13]),
     ("unrank", &[14]),
+    ("unrank list", &[18, 17, 14]),
     ("span start", &[15]),
     ("span size", &[15]),
     ("part-write", &[15, 16, 11]),
@@ -28,6 +30,7 @@ fn operation(call: Call) -> &'static str {
         Call::Test { .. } => "test",
         Call::Rank { .. } => "rank",
         Call::Unrank { .. } => "unrank",
+        Call::UnrankList { .. } => "unrank list",
         Call::SpanStart { .. } => "span start",
         Call::SpanSize { .. } => "span size",
         Call::PartWrite { .. } => "part-write",
@@ -42,25 +45,28 @@ fn is_listed(name: &str, number: u64) -> bool {
 
 /// Whether an answer is one that is listed for its call, whatever the table is.
 pub fn is_listed_answer(call: Call, answer: Answer) -> bool {
-    match answer.refusal() {
+    let [value, more @ ..] = answer.words;
+    let items = call.list().items().len() as u64;
+    let is_listed = match answer.refusal() {
         Some(Refusal { number, place }) => {
-            let places = if (4..=9).contains(&number) {
-                1..=65_535
-            } else {
-                0..=0
+            let places = match (call, number) {
+                (_, 4..=9) => 1..=65_535,
+                (Call::UnrankList { .. }, 17) => 2..=items,
+                (Call::UnrankList { .. }, 14) => 1..=items,
+                _ => 0..=0,
             };
-            number > 0 && is_listed(operation(call), number) && places.contains(&place)
+            is_listed(operation(call), number) && places.contains(&place)
         }
         None => match call {
-            Call::Check => answer.0 >> 32 <= 63 && answer.0 & 0xFFFF_FFFF <= 65_535,
-            Call::Test { .. } => answer.0 <= 1,
-            Call::PartWrite { .. } => {
-                (8..=524_288).contains(&answer.0) && answer.0.is_multiple_of(8)
-            }
-            Call::Rank { .. } | Call::Unrank { .. } => answer.0 < 1 << 63,
-            Call::Count | Call::SpanStart { .. } | Call::SpanSize { .. } => answer.0 <= 1 << 63,
+            Call::Check => value >> 32 <= 63 && value & 0xFFFF_FFFF <= 65_535,
+            Call::Test { .. } => value <= 1,
+            Call::UnrankList { .. } => value == items,
+            Call::PartWrite { .. } => (8..=524_288).contains(&value) && value.is_multiple_of(8),
+            Call::Rank { .. } | Call::Unrank { .. } => value < 1 << 63,
+            Call::Count | Call::SpanStart { .. } | Call::SpanSize { .. } => value <= 1 << 63,
         },
-    }
+    };
+    is_listed && more == [0, 0]
 }
 
 /// Whether two refusals can hold together. A setup of 2^n or more is neither permitted nor
@@ -115,10 +121,16 @@ impl Tally {
         self.answers.get(&(operation, number)).copied().unwrap_or(0)
     }
 
+    /// How many cases of an operation there were.
+    pub fn calls(&self, operation: &'static str) -> u64 {
+        let numbers = 0..=LAST_REFUSAL;
+        numbers.map(|number| self.answered(operation, number)).sum()
+    }
+
     /// Every result and every refusal of every operation has been met, and no other.
     pub fn assert_every_answer(&self) {
         for (name, _) in OPERATIONS {
-            for number in 0..=16 {
+            for number in 0..=LAST_REFUSAL {
                 let met = self.answered(name, number) > 0;
                 assert!(
                     met == is_listed(name, number),
@@ -162,16 +174,15 @@ impl Tally {
 
     /// A line an operation: its calls, its results and how often each refusal was met.
     pub fn lines(&self) -> String {
-        let mut text = String::from("operation       calls    result");
-        for number in 1..=16 {
+        let mut text = String::from("operation        calls   result");
+        for number in 1..=LAST_REFUSAL {
             text += &format!(" {number:>8}");
         }
         for (name, _) in OPERATIONS {
-            let counts: Vec<u64> = (0..=16).map(|number| self.answered(name, number)).collect();
-            text += &format!("\n{name:<10} {:>10}", counts.iter().sum::<u64>());
-            for (number, count) in counts.iter().enumerate() {
-                let shown = match is_listed(name, number as u64) {
-                    true => count.to_string(),
+            text += &format!("\n{name:<11} {:>10}", self.calls(name));
+            for number in 0..=LAST_REFUSAL {
+                let shown = match is_listed(name, number) {
+                    true => self.answered(name, number).to_string(),
                     false => String::from("-"),
                 };
                 text += &format!(" {shown:>8}");

@@ -1,7 +1,7 @@
 //! The library against the paper: answers and every byte of sheet and out memory, all operations
 //! over tables of every kind.
 
-use setupbook_tests::call::Call;
+use setupbook_tests::call::{Call, List};
 use setupbook_tests::comparison::{random_part, Comparison};
 use setupbook_tests::damage;
 use setupbook_tests::layout::{bytes_of, fields, word};
@@ -32,7 +32,7 @@ fn library_agrees_with_the_paper() {
     ]);
     comparison.tally.assert_every_answer();
     comparison.tally.assert_every_pair();
-    assert!(comparison.tally.cases >= 450_000);
+    assert!(comparison.tally.cases >= 500_000);
 }
 
 /// Compares a table made from a truth table, and its answers with the truth table itself.
@@ -41,11 +41,14 @@ fn compare_function(comparison: &mut Comparison, function: &TruthTable) {
     let table = bytes_of(&words);
     let (n, node_count, _) = fields(words[0]);
     assert_eq!(
-        comparison.compare_served(Call::Check, &table).0,
+        comparison.compare_served(Call::Check, &table).value(),
         (n << 32) + node_count
     );
     let permitted = function.iter().filter(|permitted| **permitted).count() as u64;
-    assert_eq!(comparison.compare_served(Call::Count, &table).0, permitted);
+    assert_eq!(
+        comparison.compare_served(Call::Count, &table).value(),
+        permitted
+    );
     for (setup, permitted) in function.iter().enumerate() {
         let answer = comparison.compare_served(
             Call::Test {
@@ -53,7 +56,7 @@ fn compare_function(comparison: &mut Comparison, function: &TruthTable) {
             },
             &table,
         );
-        assert_eq!(answer.0, u64::from(*permitted));
+        assert_eq!(answer.value(), u64::from(*permitted));
     }
     comparison.compare_all(&table);
 }
@@ -91,7 +94,10 @@ fn chains(comparison: &mut Comparison) {
             let table = bytes_of(&tables::chain(n, only_one, root_flag));
             let few = if only_one { 1 } else { (1 << n) - 1 };
             let count = if root_flag == 1 { (1 << n) - few } else { few };
-            assert_eq!(comparison.compare_served(Call::Count, &table).0, count);
+            assert_eq!(
+                comparison.compare_served(Call::Count, &table).value(),
+                count
+            );
             comparison.compare_all(&table);
         }
     }
@@ -122,6 +128,7 @@ fn every_sheet(comparison: &mut Comparison) {
         let setup = comparison.rng.below(1 << n);
         let rank = comparison.rng.below(1 << n);
         let (k, j) = random_part(&mut comparison.rng);
+        let [equal, falling] = [[rank, rank], [1, 0]].map(|items| bytes_of(&items));
         for call in [
             Call::Check,
             Call::Count,
@@ -130,6 +137,12 @@ fn every_sheet(comparison: &mut Comparison) {
             Call::Rank { setup },
             Call::Rank { setup: 1 << n },
             Call::Unrank { rank },
+            Call::UnrankList {
+                ranks: List(&equal),
+            },
+            Call::UnrankList {
+                ranks: List(&falling),
+            },
             Call::SpanStart { k, j },
             Call::SpanSize { k, j },
             Call::PartWrite { k, j },
@@ -238,7 +251,7 @@ fn wide(comparison: &mut Comparison) {
         let table = bytes_of(&words);
         let (n, node_count, _) = fields(words[0]);
         let answer = comparison.compare_served(Call::Check, &table);
-        assert_eq!(answer.0, (n << 32) + node_count);
+        assert_eq!(answer.value(), (n << 32) + node_count);
         comparison.compare_all(&table);
         comparison.compare_lengths(Call::Count, &table, table.len() - 1, 0);
 

@@ -70,7 +70,7 @@ impl Division<'_> {
     }
 
     fn ask(&mut self, call: Call, table: &[u8]) -> u64 {
-        self.comparison.compare_served(call, table).0
+        self.comparison.compare_served(call, table).value()
     }
 
     /// The sizes are even, as the span answers them and add up to C; setup number r of a part is

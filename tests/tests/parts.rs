@@ -91,7 +91,7 @@ fn part_borders(comparison: &mut Comparison) {
 }
 
 /// Tables of any size with a part of each, a small one as often as not.
-fn tables_and_parts(comparison: &mut Comparison, rounds: u64) -> Vec<(Vec<u8>, Call)> {
+fn tables_and_parts(comparison: &mut Comparison, rounds: u64) -> Vec<(Vec<u8>, Call<'static>)> {
     (0..rounds)
         .map(|_| {
             let rng = &mut comparison.rng;
@@ -196,8 +196,8 @@ fn about_the_limit(comparison: &mut Comparison) {
         let table = bytes_of(&tables::with_settings_above(words, 23));
         let k = 1 << added;
         for (out_len, answer) in [
-            (MOST, Answer(MOST as u64)),
-            (MOST + 9, Answer(MOST as u64)),
+            (MOST, Answer::result(MOST as u64)),
+            (MOST + 9, Answer::result(MOST as u64)),
             (MOST - 1, refused(11)),
         ] {
             assert_eq!(write_any(comparison, &table, k, out_len), answer);
@@ -213,12 +213,12 @@ fn about_the_limit(comparison: &mut Comparison) {
 /// With settings that change nothing above and below, the middle one of three parts has as many
 /// new records as there can be, 124, if C is no multiple of 3.
 fn most_new_records(comparison: &mut Comparison) {
-    for (node_count, answer) in [(65_411, Answer(MOST as u64)), (65_412, refused(16))] {
+    for (node_count, answer) in [(65_411, Answer::result(MOST as u64)), (65_412, refused(16))] {
         let table = loop {
             let words = tables::wide(&mut comparison.rng, 40, node_count, 5_000);
             let words = tables::with_settings_below(&words, 3);
             let table = bytes_of(&tables::with_settings_above(words, 20));
-            let count = comparison.compare_served(Call::Count, &table).0;
+            let count = comparison.compare_served(Call::Count, &table).value();
             if !count.is_multiple_of(3) {
                 break table;
             }

@@ -32,9 +32,9 @@ fn compare_list(comparison: &mut Comparison, function: &TruthTable) -> Vec<u8> {
     for (setup, permitted) in (0..).zip(function) {
         let ranked = comparison.compare_served(Call::Rank { setup }, &table);
         if *permitted {
-            assert_eq!(ranked.0, rank);
+            assert_eq!(ranked.value(), rank);
             let unranked = comparison.compare_served(Call::Unrank { rank }, &table);
-            assert_eq!(unranked.0, setup);
+            assert_eq!(unranked.value(), setup);
             rank += 1;
         } else {
             assert_eq!(refusal_number(ranked), Some(13));
@@ -51,13 +51,15 @@ fn compare_list(comparison: &mut Comparison, function: &TruthTable) -> Vec<u8> {
 /// Compares all parts of k: each starts where the one before ends, the last ends at C, and the
 /// sizes fall by at most 1.
 fn compare_parts(comparison: &mut Comparison, table: &[u8], k: u64) {
-    let total = comparison.compare_served(Call::Count, table).0;
+    let total = comparison.compare_served(Call::Count, table).value();
     let mut end = 0;
     let mut sizes = Vec::new();
     for j in 0..k {
         let start = comparison.compare_served(Call::SpanStart { k, j }, table);
-        assert_eq!(start.0, end);
-        let size = comparison.compare_served(Call::SpanSize { k, j }, table).0;
+        assert_eq!(start.value(), end);
+        let size = comparison
+            .compare_served(Call::SpanSize { k, j }, table)
+            .value();
         end += size;
         sizes.push(size);
     }
@@ -90,9 +92,13 @@ fn random_functions(comparison: &mut Comparison) {
 
 /// Unranks and ranks the result again; the rank is below C.
 fn there_and_back(comparison: &mut Comparison, table: &[u8], rank: u64) {
-    let setup = comparison.compare_served(Call::Unrank { rank }, table).0;
+    let setup = comparison
+        .compare_served(Call::Unrank { rank }, table)
+        .value();
     assert_eq!(
-        comparison.compare_served(Call::Rank { setup }, table).0,
+        comparison
+            .compare_served(Call::Rank { setup }, table)
+            .value(),
         rank
     );
 }
@@ -101,16 +107,16 @@ fn there_and_back(comparison: &mut Comparison, table: &[u8], rank: u64) {
 fn back_and_there(comparison: &mut Comparison, table: &[u8], setup: u64) {
     let ranked = comparison.compare_served(Call::Rank { setup }, table);
     if refusal_number(ranked).is_none() {
-        let rank = ranked.0;
+        let rank = ranked.value();
         let unranked = comparison.compare_served(Call::Unrank { rank }, table);
-        assert_eq!(unranked.0, setup);
+        assert_eq!(unranked.value(), setup);
     }
 }
 
 /// The first and last ranks, and `rounds` random ranks and setups.
 fn compare_numbers(comparison: &mut Comparison, table: &[u8], rounds: u64) {
     let n = table[0] / 4;
-    let count = comparison.compare_served(Call::Count, table).0;
+    let count = comparison.compare_served(Call::Count, table).value();
     for rank in [count, count.saturating_add(1)] {
         let past = comparison.compare_served(Call::Unrank { rank }, table);
         assert_eq!(refusal_number(past), Some(14));

@@ -1,6 +1,6 @@
 //! The paper's samples.
 
-use setupbook_tests::call::{Answer, Call, Outcome, Refusal};
+use setupbook_tests::call::{Answer, Call, List, Outcome, Refusal};
 use setupbook_tests::comparison::{front, Comparison};
 use setupbook_tests::layout::{bytes_of, words_of};
 
@@ -113,13 +113,16 @@ fn accepted_tables() {
     for sample in accepted_samples() {
         let words = &sample.words;
         let shape = (sample.n << 32) + sample.node_count;
-        assert_eq!(sampler.answer(Call::Check, words), Answer(shape));
-        assert_eq!(sampler.answer(Call::Count, words), Answer(sample.count));
+        assert_eq!(sampler.answer(Call::Check, words), Answer::result(shape));
+        assert_eq!(
+            sampler.answer(Call::Count, words),
+            Answer::result(sample.count)
+        );
         for setup in 0..1 << sample.n {
             let rank = sample.permitted.iter().position(|&x| x == setup);
-            let tested = Answer(u64::from(rank.is_some()));
+            let tested = Answer::result(u64::from(rank.is_some()));
             assert_eq!(sampler.answer(Call::Test { setup }, words), tested);
-            let ranked = rank.map_or(refused(13, 0), |rank| Answer(rank as u64));
+            let ranked = rank.map_or(refused(13, 0), |rank| Answer::result(rank as u64));
             assert_eq!(sampler.answer(Call::Rank { setup }, words), ranked);
         }
         let setup = 1 << sample.n;
@@ -128,29 +131,64 @@ fn accepted_tables() {
         }
         for rank in 0..=sample.count {
             let setup = sample.permitted.get(rank as usize);
-            let unranked = setup.map_or(refused(14, 0), |&setup| Answer(setup));
+            let unranked = setup.map_or(refused(14, 0), |&setup| Answer::result(setup));
             assert_eq!(sampler.answer(Call::Unrank { rank }, words), unranked);
         }
     }
     let full = sampler.answer(Call::Count, &[0xFC00000000000000]);
-    assert_eq!(full, Answer(9223372036854775808));
+    assert_eq!(full, Answer::result(9223372036854775808));
 }
 
 #[test]
 fn ranks_and_setups() {
     let mut sampler = Sampler::new();
     for (call, answer) in [
-        (Call::Rank { setup: 7 }, Answer(5)),
+        (Call::Rank { setup: 7 }, Answer::result(5)),
         (Call::Rank { setup: 5 }, refused(13, 0)),
         (Call::Rank { setup: 8 }, refused(12, 0)),
-        (Call::Unrank { rank: 4 }, Answer(4)),
-        (Call::Unrank { rank: 5 }, Answer(7)),
+        (Call::Unrank { rank: 4 }, Answer::result(4)),
+        (Call::Unrank { rank: 5 }, Answer::result(7)),
         (Call::Unrank { rank: 6 }, refused(14, 0)),
     ] {
         assert_eq!(sampler.answer(call, &A), answer);
     }
     let empty = sampler.answer(Call::Unrank { rank: 0 }, &[0x0C00000000000001]);
     assert_eq!(empty, refused(14, 0));
+}
+
+#[test]
+fn lists() {
+    let mut comparison = Comparison::of_run();
+    // The numbers, the items that the setups have room for, the answer, and the setups.
+    let samples: [(&[u64], usize, Answer, &[u64]); 12] = [
+        (&[0, 4, 5], 3, Answer::result(3), &[0, 4, 7]),
+        (&[0, 4, 5], 4, Answer::result(3), &[0, 4, 7]),
+        (&[0, 4, 5], 2, refused(18, 0), &[]),
+        (&[5, 5], 2, Answer::result(2), &[7, 7]),
+        (&[4, 3], 2, refused(17, 2), &[]),
+        (&[6, 5], 2, refused(17, 2), &[]),
+        (&[6, 5], 1, refused(18, 0), &[]),
+        (&[0, 6], 2, refused(14, 2), &[]),
+        (&[6, 6, 7], 3, refused(14, 1), &[]),
+        (&[0, 6, 1, 0], 4, refused(17, 3), &[]),
+        (&[], 0, Answer::result(0), &[]),
+        (&[], 1, Answer::result(0), &[]),
+    ];
+    for (items, room, answer, setups) in samples {
+        for spare in 0..8 {
+            let ranks = [bytes_of(items), vec![0xFF; spare]].concat();
+            let call = Call::UnrankList {
+                ranks: List(&ranks),
+            };
+            let out = vec![0xFF; 8 * room];
+            let outcome = comparison.compare(call, &bytes_of(&A), &[0xFF; 40], &out);
+            assert_eq!(outcome.answer, answer);
+            assert_eq!(words_of(&outcome.sheet), [1, 1, 2, 6, u64::MAX]);
+            let mut left = setups.to_vec();
+            left.resize(room, u64::MAX);
+            assert_eq!(words_of(&outcome.out), left);
+        }
+    }
 }
 
 #[test]
@@ -162,15 +200,15 @@ fn parts() {
         let mut start = 0;
         for (j, &size) in (0..).zip(sizes) {
             let answer = sampler.answer(Call::SpanStart { k, j }, &A);
-            assert_eq!(answer, Answer(start));
+            assert_eq!(answer, Answer::result(start));
             let answer = sampler.answer(Call::SpanSize { k, j }, &A);
-            assert_eq!(answer, Answer(size));
+            assert_eq!(answer, Answer::result(size));
             start += size;
         }
     }
     for (k, j, start, size) in [
-        (65_535, 0, Answer(0), Answer(1)),
-        (65_535, 65_534, Answer(6), Answer(0)),
+        (65_535, 0, Answer::result(0), Answer::result(1)),
+        (65_535, 65_534, Answer::result(6), Answer::result(0)),
         (65_535, 65_535, refused(15, 0), refused(15, 0)),
         (65_536, 0, refused(15, 0), refused(15, 0)),
     ] {
@@ -189,7 +227,7 @@ fn written_parts() {
     };
     for (j, words) in (0..).zip(HALVES_OF_A) {
         let outcome = write(2, j, 48);
-        assert_eq!(outcome.answer, Answer(8 * words.len() as u64));
+        assert_eq!(outcome.answer, Answer::result(8 * words.len() as u64));
         assert_eq!(words_of(front(&outcome)), words);
         let places = words_of(&outcome.sheet);
         assert_eq!(places[..4], [1, 1, 2, 6]);
@@ -224,6 +262,10 @@ fn sheets_and_refused_tables() {
         Call::Rank { setup: 8 },
         Call::Unrank { rank: 5 },
         Call::Unrank { rank: 6 },
+        Call::UnrankList { ranks: List(&[]) },
+        Call::UnrankList {
+            ranks: List(&[0; 8]),
+        },
         Call::SpanStart { k: 4, j: 3 },
         Call::SpanSize { k: 4, j: 3 },
         Call::SpanSize { k: 4, j: 4 },

@@ -144,10 +144,10 @@ fn the_library_counts_them() {
     let mut comparison = Comparison::of_run();
     for sample in samples() {
         let table = bytes_of(&sample.words);
-        let shape = Answer((sample.n() << 32) + sample.node_count());
+        let shape = Answer::result((sample.n() << 32) + sample.node_count());
         assert_eq!(comparison.compare_served(Call::Check, &table), shape);
         let count = comparison.compare_served(Call::Count, &table);
-        assert_eq!(count, Answer(sample.count), "{}", sample.name);
+        assert_eq!(count, Answer::result(sample.count), "{}", sample.name);
         comparison.compare_all(&table);
     }
 }
@@ -184,7 +184,9 @@ fn texts_say_what_is_so() {
             continue;
         }
         for (field, rank) in [("first", 0), ("last", count - 1)] {
-            let setup = comparison.compare_served(Call::Unrank { rank }, &table).0;
+            let setup = comparison
+                .compare_served(Call::Unrank { rank }, &table)
+                .value();
             let setup = digits(setup, sample.n() as usize);
             assert_eq!(value(&text, field), Some(&setup[..]), "{name}.txt");
         }

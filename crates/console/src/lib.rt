@@ -1,14 +1,19 @@
-// The setup book for a C program: numbers and byte memory in, one packed number out. include/setupbook.h declares these functions.
+// The setup book for a C program: numbers and byte memory in; out comes one packed number, or a number and three words. include/setupbook.h declares these functions.
+mod told;
+
 ghost use mathlib.Core.Path.{_≡_};
 ghost use Prim.Native.Nat.{ℕ};
 ghost use lib.ListN.{length};
 ghost use Rattle.rules.specs.Packed.{packed};
 ghost use Rattle.checking.specs.Operations.{sheetAfter};
 ghost use Rattle.ranking.specs.Operations.{ranking, unranking};
+ghost use Rattle.lists.specs.Operations.{items, unrankingList, setupsAfter};
 ghost use Rattle.tables.specs.Writing.{lengthOf};
 ghost use Rattle.parts.specs.Operations.{partWriting, Promise};
+ghost use Rattle.console.specs.Told.{single, returned, told};
 use diagram::Rank;
 use diagram::Setup;
+use lists::Listed;
 use ranking::Ranked;
 use ranking::Unranked;
 use writing::Written;
@@ -36,6 +41,27 @@ pub extern "C" fn setupbook_unrank(table: &[u8], rank: u64, sheet: &mut [u8]) ->
     match unranked {
         Unranked::To(x) => x.0,
         Unranked::Refused(r) => rules::pack_refusal(r),
+    }
+}
+
+// The setups of a list of ranks: how many.
+#[no_mangle]
+pub extern "C" fn setupbook_unrank_list(
+    table: &[u8],
+    ranks: &[u8],
+    sheet: &mut [u8],
+    setups: &mut [u8],
+    answer: &mut [u64; 3],
+) -> u64
+    ensures { λ r. ⌜ (r ≡ returned (unrankingList (now (table .entry)) (now (ranks .entry)) (now (sheet .entry)) (items (now (setups .entry)))))
+        × (now (answer .exit) ≡ told single (unrankingList (now (table .entry)) (now (ranks .entry)) (now (sheet .entry)) (items (now (setups .entry)))))
+        × (now (sheet .exit) ≡ sheetAfter (now (table .entry)) (now (sheet .entry)))
+        × (now (setups .exit) ≡ setupsAfter (now (table .entry)) (now (ranks .entry)) (now (sheet .entry)) (now (setups .entry))) ⌝ }
+{
+    let listed = lists::unrank_list(table, ranks, sheet, setups);
+    match listed {
+        Listed::Items(m) => told::tell(m as u64, answer),
+        Listed::Refused(r) => told::tell_refusal(r, answer),
     }
 }
 

@@ -1,15 +1,17 @@
 -- The cofactors of an edge: what it permits with one setting on or off. Assumes nothing.
 use Prim.Native.Nat.{ℕ, zero, suc, _+_, _-_, _/_, _%_, _^_, _≤_, _<_}
-use mathlib.Core.Path.{_≡_, refl, sym, ap, subst, _∙_}
+use mathlib.Core.Path.{_≡_, refl, sym, ap, ap₂, subst, _∙_}
 use mathlib.Core.Bool.{Bool, true, false, cond}
 use native.Mathlib.Omega.{arith}
 use lib.Dec.{ltb}
 use borrow.Author.Tests.{ltb-true, ltb-false, lt-ltb, le-ltb}
 use Rattle.diagram.specs.Format.{Words, height}
 use Rattle.diagram.specs.Meaning.{flip, plain, under}
+use Rattle.diagram.specs.Count.{countBelow}
 use Rattle.diagram.specs.Ordered.{Ordered}
 use Rattle.diagram.specs.Reading.{turn, cofactor}
-use Rattle.diagram.proofs.Bits.{withBit, with-mod, with-off, with-on}
+use Rattle.diagram.proofs.CountLaws.{count-cong, count-add}
+use Rattle.diagram.proofs.Bits.{withBit, with-mod, with-off, with-on, pow-halves}
 use Rattle.diagram.proofs.Paths.{side, side-lower}
 use Rattle.diagram.proofs.Local.{under-agree, node-with}
 use Rattle.diagram.proofs.Edges.{turn-node, turn-under}
@@ -66,3 +68,10 @@ module _ (w : Words) (n N : ℕ) (D : Ordered w n N) (e h : ℕ) (inside : e / 2
 
   pub cofactor-on : (x : ℕ) → x < 2 ^ (h - 1) → under w (cofactor w h true e) x ≡ under w e (2 ^ (h - 1) + x)
   cofactor-on x l = sym (cofactor-with true x) ∙ ap (under w e) (with-on h x l)
+
+  -- so its setups are those of its two cofactors
+  pub cofactor-counts : countBelow (under w e) (2 ^ h) ≡ countBelow (under w (cofactor w h false e)) (2 ^ (h - 1)) + countBelow (under w (cofactor w h true e)) (2 ^ (h - 1))
+  cofactor-counts =
+      ap (countBelow (under w e)) (pow-halves h some)
+      ∙ count-add (under w e) (2 ^ (h - 1)) (2 ^ (h - 1))
+      ∙ sym (ap₂ _+_ (count-cong (under w (cofactor w h false e)) (under w e) (2 ^ (h - 1)) cofactor-off) (count-cong (under w (cofactor w h true e)) (λ x. under w e (2 ^ (h - 1) + x)) (2 ^ (h - 1)) cofactor-on))

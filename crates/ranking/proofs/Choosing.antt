@@ -1,12 +1,14 @@
 -- Unranking, one setting at a time: what stands after each. Assumes nothing.
 use Prim.Native.Nat.{ℕ, zero, suc, _+_, _-_, _*_, _/_, _^_, _≤_, _<_}
-use mathlib.Core.Path.{_≡_, refl, ap, subst, _∙_}
-use mathlib.Core.Bool.{Bool, true, false}
+use mathlib.Core.Path.{_≡_, refl, sym, ap, subst, _∙_}
+use mathlib.Core.Bool.{Bool, true, false, cond}
 use mathlib.Core.List.{List}
 use mathlib.Core.Option.{some}
 use native.Mathlib.Nat.{zero-mul, zero-add, mul-le-mul-left}
 use native.Mathlib.Omega.{arith}
+use lib.Dec.{leb}
 use lib.Pow.{pow-pos, pow-lt}
+use borrow.Author.Tests.{leb-true, leb-false}
 use Rattle.words.specs.Words.{wordAt}
 use Rattle.diagram.specs.Format.{Words}
 use Rattle.diagram.specs.Meaning.{under}
@@ -17,7 +19,7 @@ use Rattle.diagram.proofs.CountLaws.{count-cong, count-add}
 use Rattle.diagram.proofs.Select.{Selected, select-of}
 use Rattle.diagram.proofs.Cofactor.{cofactor-off, cofactor-on}
 use Rattle.counting.specs.Inner.{Opens}
-use Rattle.ranking.specs.Inner.{Chosen}
+use Rattle.ranking.specs.Inner.{Chosen, IsChoice}
 
 -- before the first setting
 pub chosen-first : (w : Words) (n root asked : ℕ) → asked < countBelow (under w root) (2 ^ n) → Chosen w n root asked n root asked 0
@@ -80,32 +82,36 @@ module _ (t s : List ℕ) (n root asked h e left x : ℕ) (O : Opens t s e h) (t
   on-count : countBelow (λ y. P (base + (half + y))) half ≡ countBelow (λ y. P ((x * 2 + 1) * half + y)) half
   on-count = count-cong (λ y. P (base + (half + y))) (λ y. P ((x * 2 + 1) * half + y)) half (λ y l. ap P (past y))
 
-  -- in the terms of the code: low and high are the cofactors, and c setups begin with the setting off
-  module _ (low-edge high-edge c : ℕ) (low-is : low-edge ≡ cofactor w h false e) (high-is : high-edge ≡ cofactor w h true e) (c-is : c ≡ countBelow (under w low-edge) half) where
-    c-count : c ≡ countBelow (λ y. P (base + y)) half
-    c-count = c-is ∙ rw low-is off-count
+  -- off: `c` setups begin with the setting off
+  chosen-off : (c : ℕ) → c ≡ countBelow (under w (cofactor w h false e)) half → left < c → Chosen w n root asked (h - 1) (cofactor w h false e) left (x * 2)
+  chosen-off c c-is l = record {
+    begins = omega (arith, fits, off-base);
+    same = λ y i. rw off-base (off-same y i);
+    left-is = rw off-base (C .left-is);
+    left-fits = rw off-base (omega (arith, c-is, off-count));
+  }
 
-    -- off
-    pub chosen-off : left < c → Chosen w n root asked (h - 1) low-edge left (x * 2)
-    chosen-off l = record {
-      begins = omega (arith, fits, off-base);
-      same = λ y i. rw (off-base, low-is) (off-same y i);
-      left-is = rw off-base (C .left-is);
-      left-fits = rw off-base (omega (arith, c-count));
-    }
+  -- on: those that begin with it off come before
+  chosen-on : (c : ℕ) → c ≡ countBelow (under w (cofactor w h false e)) half → c ≤ left → Chosen w n root asked (h - 1) (cofactor w h true e) (left - c) (x * 2 + 1)
+  chosen-on c c-is l =
+      let before : countBelow P (base + half) ≡ countBelow P base + countBelow (λ y. P (base + y)) half = count-add P base half in
+      let both : countBelow (λ y. P (base + y)) (2 ^ h) ≡ countBelow (λ y. P (base + y)) half + countBelow (λ y. P (base + (half + y))) half =
+      ap (countBelow (λ y. P (base + y))) halves ∙ count-add (λ y. P (base + y)) half half in
+      record {
+        begins = omega (arith, fits, on-base);
+        same = λ y i. on-same y i ∙ ap P (past y);
+        left-is = rw on-base (omega (arith, before, c-is, off-count, C .left-is));
+        left-fits = omega (arith, both, on-count, c-is, off-count, C .left-fits);
+      }
 
-    -- on: those that begin with it off come before
-    pub chosen-on : c ≤ left → Chosen w n root asked (h - 1) high-edge (left - c) (x * 2 + 1)
-    chosen-on l =
-        let before : countBelow P (base + half) ≡ countBelow P base + countBelow (λ y. P (base + y)) half = count-add P base half in
-        let both : countBelow (λ y. P (base + y)) (2 ^ h) ≡ countBelow (λ y. P (base + y)) half + countBelow (λ y. P (base + (half + y))) half =
-        ap (countBelow (λ y. P (base + y))) halves ∙ count-add (λ y. P (base + y)) half half in
-        record {
-          begins = omega (arith, fits, on-base);
-          same = λ y i. rw high-is (on-same y i ∙ ap P (past y));
-          left-is = rw on-base (omega (arith, before, c-count, C .left-is));
-          left-fits = omega (arith, both, on-count, c-count, C .left-fits);
-        }
+  -- as the choice has it
+  pub chosen-next : (c : ℕ) → c ≡ countBelow (under w (cofactor w h false e)) half → (on : Bool) (left′ x′ : ℕ) → IsChoice c left x on left′ x′
+      → Chosen w n root asked (h - 1) (cofactor w h on e) left′ x′
+  chosen-next c c-is on left′ x′ q = rw (q .left-is, q .digits-is) (go on (q .on-is))
+    where
+      go : (b : Bool) → b ≡ leb c left → Chosen w n root asked (h - 1) (cofactor w h b e) (cond b (left - c) left) (cond b (x * 2 + 1) (x * 2))
+      go true p = chosen-on c c-is (leb-true c left (sym p))
+      go false p = chosen-off c c-is (leb-false c left (sym p))
 
 -- after the last setting: one setup begins as chosen, and it is permitted
 last : (P : ℕ → Bool) (m asked left x : ℕ) → (x + 1) * 2 ^ 0 ≤ m → left + countBelow P (x * 2 ^ 0) ≡ asked → left < countBelow (λ y. P (x * 2 ^ 0 + y)) (2 ^ 0) → Selected P m asked x

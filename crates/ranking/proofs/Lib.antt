@@ -4,6 +4,7 @@ pub mod Stepping
 pub mod Below
 pub mod Choosing
 pub mod Opening
+pub mod Ways
 pub mod Answering
 pub mod Numbering
 pub mod Bounds

@@ -2,7 +2,11 @@
 mod descent;
 mod smaller;
 
+pub use descent::Below;
+pub use descent::Way;
+pub use descent::advance;
 pub use descent::descend;
+pub use descent::look_below;
 ghost use mathlib.Core.Path.{_≡_};
 ghost use Rattle.words.specs.Words.{wordAt};
 ghost use Rattle.diagram.specs.Meaning.{under};

@@ -12,7 +12,10 @@ use diagram::Edge;
 use diagram::Node;
 use diagram::Record;
 
-// Why an operation is refused, and at which record.
+// An item of a list, counted from 1.
+pub struct Item(pub usize);
+
+// Why an operation is refused, and at which record or item.
 pub enum Refusal {
     Length,
     Nodes,
@@ -30,6 +33,9 @@ pub enum Refusal {
     RankRange,
     PartRange,
     TooManyNodes,
+    ItemRange(Item),
+    Falls(Item),
+    ShortList,
 }
 
 // The number of a refusal.
@@ -53,6 +59,9 @@ pub fn number_of(refusal: Refusal) -> u64
         Refusal::RankRange => 14,
         Refusal::PartRange => 15,
         Refusal::TooManyNodes => 16,
+        Refusal::ItemRange(_) => 14,
+        Refusal::Falls(_) => 17,
+        Refusal::ShortList => 18,
     }
 }
 
@@ -77,6 +86,9 @@ pub fn place_of(refusal: Refusal) -> usize
         Refusal::RankRange => 0,
         Refusal::PartRange => 0,
         Refusal::TooManyNodes => 0,
+        Refusal::ItemRange(i) => i.0,
+        Refusal::Falls(i) => i.0,
+        Refusal::ShortList => 0,
     }
 }
 

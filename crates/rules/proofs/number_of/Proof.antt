@@ -12,7 +12,8 @@ number-of-spec =
     (tie.spec
     (λ c. search needs) (λ c. search needs) (λ c. search needs) (λ c. search needs) (λ c. search needs) (λ c. search needs)
     (λ c. search needs) (λ c. search needs) (λ c. search needs) (λ c. search needs) (λ c. search needs) (λ c. search needs)
-    (λ c. search needs) (λ c. search needs) (λ c. search needs) (λ c. search needs)
+    (λ c. search needs) (λ c. search needs) (λ c. search needs) (λ c. search needs) (λ c. search needs) (λ c. search needs)
+    (λ c. search needs)
     (λ c. (sym (ap numberOf (c .enum-told .given .1)), lit< tt))
     (λ c. (sym (ap numberOf (c .enum-told2 .given .1)), lit< tt))
     (λ c. (sym (ap numberOf (c .enum-told3 .given .1)), lit< tt))
@@ -28,4 +29,7 @@ number-of-spec =
     (λ c. (sym (ap numberOf (c .enum-told13 .given .1)), lit< tt))
     (λ c. (sym (ap numberOf (c .enum-told14 .given .1)), lit< tt))
     (λ c. (sym (ap numberOf (c .enum-told15 .given .1)), lit< tt))
-    (λ c. (sym (ap numberOf (c .enum-told16 .given .1)), lit< tt)))
+    (λ c. (sym (ap numberOf (c .enum-told16 .given .1)), lit< tt))
+    (λ c. (sym (ap numberOf (c .enum-told17 .given .1)), lit< tt))
+    (λ c. (sym (ap numberOf (c .enum-told18 .given .1)), lit< tt))
+    (λ c. (sym (ap numberOf (c .enum-told19 .given .1)), lit< tt)))

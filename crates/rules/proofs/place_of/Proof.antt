@@ -11,7 +11,8 @@ place-of-spec =
     (tie.spec
     (λ c. search needs) (λ c. search needs) (λ c. search needs) (λ c. search needs) (λ c. search needs) (λ c. search needs)
     (λ c. search needs) (λ c. search needs) (λ c. search needs) (λ c. search needs) (λ c. search needs) (λ c. search needs)
-    (λ c. search needs) (λ c. search needs) (λ c. search needs) (λ c. search needs)
+    (λ c. search needs) (λ c. search needs) (λ c. search needs) (λ c. search needs) (λ c. search needs) (λ c. search needs)
+    (λ c. search needs)
     (λ c. sym (ap placeOf (c .enum-told .given .1)))
     (λ c. sym (ap placeOf (c .enum-told2 .given .1)))
     (λ c. sym (ap placeOf (c .enum-told3 .given .1)))
@@ -27,4 +28,7 @@ place-of-spec =
     (λ c. sym (ap placeOf (c .enum-told7 .given .1)))
     (λ c. sym (ap placeOf (c .enum-told8 .given .1)))
     (λ c. sym (ap placeOf (c .enum-told9 .given .1)))
-    (λ c. sym (ap placeOf (c .enum-told10 .given .1))))
+    (λ c. sym (ap placeOf (c .enum-told10 .given .1)))
+    (λ c. sym (ap placeOf (c .before .refusal7 .given .1)))
+    (λ c. sym (ap placeOf (c .before .refusal8 .given .1)))
+    (λ c. sym (ap placeOf (c .enum-told11 .given .1))))

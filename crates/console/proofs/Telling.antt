@@ -1,0 +1,16 @@
+-- An answer in three words, in the terms of the code. Assumes nothing.
+use Prim.Native.Nat.{ℕ}
+use mathlib.Core.Path.{_≡_, sym, ap, _∙_}
+use mathlib.Core.List.{List}
+use Rattle.diagram.specs.Answer.{Answer, value, refusal}
+use Rattle.console.specs.Told.{single, returned, told}
+
+-- b is the code's answer to what a defines; r is returned, and the words are left
+module _ {A : Type 0} (f : A → List ℕ) (a b : Answer A) (is : b ≡ a) (r : ℕ) (words : List ℕ) where
+  pub told-value : (v : A) → b ≡ value v → (r ≡ 0) × (words ≡ f v) → (r ≡ returned a) × (words ≡ told f a)
+  unfolding returned told
+  told-value v q p = (p .0 ∙ sym (ap returned (sym is ∙ q)), p .1 ∙ sym (ap (told f) (sym is ∙ q)))
+
+  pub told-refusal : (number place : ℕ) → b ≡ refusal number place → (r ≡ number) × (words ≡ single place) → (r ≡ returned a) × (words ≡ told f a)
+  unfolding returned told
+  told-refusal number place q p = (p .0 ∙ sym (ap returned (sym is ∙ q)), p .1 ∙ sym (ap (told f) (sym is ∙ q)))

@@ -1,0 +1,2 @@
+-- Answers for C.
+pub mod Told

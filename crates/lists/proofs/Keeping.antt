@@ -1,0 +1,252 @@
+-- The way down that is kept from one rank to the next, in the terms of the code. Assumes nothing.
+use Prim.Native.Nat.{ℕ, zero, suc, _+_, _-_, _*_, _/_, _^_, _≤_, _<_}
+use mathlib.Core.Path.{_≡_, refl, sym, ap, subst, _∙_}
+use mathlib.Core.Bool.{Bool}
+use mathlib.Core.List.{List}
+use native.Mathlib.Omega.{arith}
+use native.Mathlib.Nat.{div-one, div-div-eq-div-mul, zero-div, pow-succ', lt-of-lt-of-le}
+use lib.ListN.{length, getD, set, replicate, length-set, length-replicate, getD-replicate}
+use lib.Seq.{getD-set-same, getD-set-other}
+use lib.Pow.{pow-mono, pow-add}
+use Rattle.words.specs.Words.{wordAt}
+use Rattle.words.proofs.Cases.{less, same, more, tri}
+use Rattle.diagram.specs.Format.{Words}
+use Rattle.diagram.specs.Meaning.{under}
+use Rattle.diagram.specs.Count.{countBelow}
+use Rattle.diagram.proofs.CountLaws.{count-cong, count-add, count-le}
+use Rattle.counting.specs.Inner.{Opens}
+use Rattle.ranking.specs.declared.descent.Way.{Way}
+use Rattle.ranking.specs.Inner.{Chosen, ChosenBy, IsBelow, Stands, Advances}
+use Rattle.ranking.proofs.Choosing.{chosen-first, chosen-last, digits-fit}
+use Rattle.ranking.proofs.Ways.{at-top}
+use Rattle.lists.specs.Inner.{Ends, Entry, Trail, Follows, Resumes, Reaches}
+
+-- the digits before the last j and one more
+halved : (x y j : ℕ) → y / 2 ≡ x → y / 2 ^ suc j ≡ x / 2 ^ j
+halved x y j e = ap (λ (m : ℕ). y / m) (pow-succ' 2 j) ∙ sym (div-div-eq-div-mul y 2 (2 ^ j)) ∙ ap (λ (m : ℕ). m / 2 ^ j) e
+
+-- what the settings chosen say of the rank asked for
+module _ (w : Words) (n root asked h e left x : ℕ) (C : Chosen w n root asked h e left x) where
+  abbrev P : ℕ → Bool
+  P = under w root
+
+  abbrev begin : ℕ → Bool
+  begin y = P (x * 2 ^ h + y)
+
+  own-count : countBelow begin (2 ^ h) ≡ countBelow (under w e) (2 ^ h)
+  own-count = sym (count-cong (under w e) begin (2 ^ h) (C .same))
+
+  left-below : left < countBelow (under w e) (2 ^ h)
+  left-below = omega (arith, own-count, C .left-fits)
+
+  asked-below : asked < 2 ^ n
+  asked-below = omega (arith, C .left-is, C .left-fits, count-add P (x * 2 ^ h) (2 ^ h), count-le P (x * 2 ^ h + 2 ^ h), C .begins)
+
+-- a later rank under the same settings
+entry-rise : (t s : List ℕ) (n root r h e end x : ℕ) → Entry t s n root r h e end x → (r′ : ℕ) → r ≤ r′ → r′ < end → Entry t s n root r′ h e end x
+entry-rise t s n root r h e end x E r′ l u =
+    let C = E .chosen in
+    let q = left-below (wordAt t) n root r h e (E .left) x C in
+    record {
+      opens = E .opens;
+      left = E .left + (r′ - r);
+      chosen = record {
+        begins = C .begins;
+        same = C .same;
+        left-is = omega (arith, C .left-is);
+        left-fits = rw (own-count (wordAt t) n root r h e (E .left) x C) (omega (arith, E .end-is));
+      };
+      end-is = omega (arith, E .end-is);
+    }
+
+-- ... so the way that was kept serves it
+pub trail-rise : (t s : List ℕ) (n root r : ℕ) (edges ends : List ℕ) (h x : ℕ) → Trail t s n root r edges ends h x → (r′ : ℕ) → r ≤ r′ → Trail t s n root r′ edges ends h x
+trail-rise t s n root r edges ends h x T r′ l = record {
+  few = T .few;
+  edges-long = T .edges-long;
+  ends-long = T .ends-long;
+  top = T .top;
+  entry = λ k i j u. entry-rise t s n root r k (getD edges k 0) (getD ends k 0) (x / 2 ^ (k - h)) (T .entry k i j (omega arith)) r′ l u;
+}
+
+-- a way that is followed
+module _ (t s : List ℕ) (n root r : ℕ) (edges ends : List ℕ) (h : ℕ) (way : Way) (F : Follows t s n root r edges ends h way) where
+  abbrev w : Words
+  w = wordAt t
+
+  pub digits-few : 0 < h → way .digits < 2 ^ 63
+  digits-few tall = omega (arith, digits-fit t s n root r h (way .edge .value) (way .left) (way .digits) (F .stands .opens) tall (F .chosen) (F .trail .few))
+
+  -- its node is no higher than the settings left
+  pub way-low : way .height ≤ h
+  way-low = omega (arith, F .stands .opens .low, F .stands .below .height-is)
+
+  -- followed to the end, it leads to the setup
+  pub reached : h ≤ 0 → Reaches t s n root r edges ends (way .digits)
+  reached z =
+      let e : h ≡ 0 = omega arith in
+      record {
+        setup-is = chosen-last w n root r h (way .edge .value) (way .left) (way .digits) z (F .chosen);
+        trail = subst (λ (k : ℕ). Trail t s n root r edges ends k (way .digits)) e (F .trail);
+      }
+
+  -- by one setting more, before it is kept
+  module _ (tall : 0 < h) (next : Way) (A : Advances t s h way next) where
+    abbrev end : ℕ
+    end = r - next .left + next .count
+
+    chosen-next : ChosenBy w n root r (h - 1) next
+    chosen-next = A .chosen n root r (F .chosen)
+
+    here : Entry t s n root r (h - 1) (next .edge .value) end (next .digits)
+    here = record {
+      opens = A .stands .opens;
+      left = next .left;
+      chosen = chosen-next;
+      end-is = omega (arith, chosen-next .left-is, A .stands .below .count-is);
+    }
+
+    entries : (k : ℕ) → h - 1 ≤ k → k ≤ n → r < getD (set ends (h - 1) end) k 0
+        → Entry t s n root r k (getD (set edges (h - 1) (next .edge .value)) k 0) (getD (set ends (h - 1) end) k 0) (next .digits / 2 ^ (k - (h - 1)))
+    entries k i j u =
+        let T = F .trail in
+        elim (tri k (h - 1)) [
+          | less q ↦ absurd (omega arith)
+          | same q ↦
+              let z : k - (h - 1) ≡ 0 = omega arith in
+              rw (z, q, getD-set-same edges (h - 1) (next .edge .value) 0 (omega (arith, T .edges-long, T .few, F .low)), getD-set-same ends (h - 1) end 0 (omega (arith, T .ends-long, T .few, F .low)), div-one)
+              here
+          | more q ↦
+              let m : k ≡ h - 1 → ⊥ = λ e. omega arith in
+              let z : k - (h - 1) ≡ suc (k - h) = omega arith in
+              let v : r < getD ends k 0 = rw (← (getD-set-other ends (h - 1) k end 0 m)) u in
+              rw (z, getD-set-other edges (h - 1) k (next .edge .value) 0 m, getD-set-other ends (h - 1) k end 0 m, halved (way .digits) (next .digits) (k - h) (A .digits))
+              (T .entry k (omega arith) j v)
+        ]
+
+    pub advanced : (edges′ ends′ : List ℕ) → edges′ ≡ set edges (h - 1) (next .edge .value) → ends′ ≡ set ends (h - 1) end → Follows t s n root r edges′ ends′ (h - 1) next
+    advanced edges′ ends′ p q =
+        let T = F .trail in
+        rw (p, q) (record {
+          low = omega (arith, F .low);
+          stands = A .stands;
+          chosen = chosen-next;
+          trail = record {
+            few = T .few;
+            edges-long = simp length-set (T .edges-long);
+            ends-long = simp length-set (T .ends-long);
+            top = getD-set-other ends (h - 1) n end 0 (λ e. omega (arith, F .low)) ∙ T .top;
+            entry = entries;
+          };
+        })
+
+    -- it can be kept
+    pub next-keepable : (h - 1 < 64) × (next .left ≤ r) × (r + next .count < 2 ^ 64)
+    next-keepable =
+        let c : next .count ≤ 2 ^ (h - 1) = rw (A .stands .below .count-is) (count-le (under w (next .edge .value)) (2 ^ (h - 1))) in
+        let i : 2 ^ (h - 1) ≤ 2 ^ 63 = pow-mono {i = h - 1} {j = 63} (omega (arith, F .low, F .trail .few)) in
+        let j : 2 ^ n ≤ 2 ^ 63 = pow-mono {i = n} {j = 63} (F .trail .few) in
+        (omega (arith, F .low, F .trail .few), omega (arith, chosen-next .left-is), omega (arith, asked-below w n root r h (way .edge .value) (way .left) (way .digits) (F .chosen)))
+
+-- a way whose node is as high as the settings left
+pub at-node : (t s : List ℕ) (n root r : ℕ) (edges ends : List ℕ) (h : ℕ) (way : Way) → Follows t s n root r edges ends h way → h ≤ way .height → Follows t s n root r edges ends (way .height) way
+at-node t s n root r edges ends h way F l = subst (λ (k : ℕ). Follows t s n root r edges ends k way) (at-top t s h way (F .stands) l .0) F
+
+-- the ends from the lowest up, the first h of them not above r
+module _ (ends : List ℕ) (r h : ℕ) (over : (k : ℕ) → k < h → getD ends k 0 ≤ r) where
+  pub not-left : Ends ends r → h < 64
+  not-left e =
+      elim (tri h (e .top)) [ less q ↦ omega (arith, e .few) | same q ↦ omega (arith, e .few) | more q ↦ absurd (omega (arith, over (e .top) q, e .above)) ]
+
+  pub one-more-left : getD ends h 0 ≤ r → (k : ℕ) → k < h + 1 → getD ends k 0 ≤ r
+  one-more-left l k u = elim (tri k h) [ less q ↦ over k q | same q ↦ rw q l | more q ↦ absurd (omega arith) ]
+
+  pub first-left : (k : ℕ) → r < getD ends k 0 → h ≤ k
+  first-left k u = elim (tri k h) [ less q ↦ absurd (omega (arith, over k q)) | same q ↦ omega arith | more q ↦ omega arith ]
+
+-- some end is above a rank that has a setup
+pub some-end : (t s : List ℕ) (n root r : ℕ) (edges ends : List ℕ) (last : ℕ) → Resumes t s n root r edges ends last → Ends ends r
+some-end t s n root r edges ends last R = record { top = n; few = omega (arith, R .trail .few); above = rw (R .trail .top) (R .inside) }
+
+-- where h settings are left, the way that was kept goes on to rank r
+module _ (t s : List ℕ) (n root r : ℕ) (edges ends : List ℕ) (last : ℕ) (R : Resumes t s n root r edges ends last)
+    (h : ℕ) (above : r < getD ends h 0) (first : (k : ℕ) → r < getD ends k 0 → h ≤ k) where
+  abbrev T : Trail t s n root r edges ends 0 last
+  T = R .trail
+
+  low : h ≤ n
+  low = first n (rw (T .top) (R .inside))
+
+  E : Entry t s n root r h (getD edges h 0) (getD ends h 0) (last / 2 ^ (h - 0))
+  E = T .entry h (omega arith) low above
+
+  pub resumed-opens : (h < 64) × Opens t s (getD edges h 0) h
+  resumed-opens = (omega (arith, low, T .few), E .opens)
+
+  module _ (g c : ℕ) (B : IsBelow (wordAt t) (getD edges h 0) h g c) where
+    left-is : c - (getD ends h 0 - r) ≡ E .left
+    left-is = omega (arith, E .end-is, B .count-is, left-below (wordAt t) n root r h (getD edges h 0) (E .left) (last / 2 ^ (h - 0)) (E .chosen))
+
+    pub left-fits : getD ends h 0 - r ≤ c
+    left-fits = omega (arith, E .end-is, B .count-is)
+
+    pub resumed : (way : Way) → way .edge .value ≡ getD edges h 0 → way .height ≡ g → way .count ≡ c → way .left ≡ c - (getD ends h 0 - r) → way .digits ≡ last / 2 ^ h → Follows t s n root r edges ends h way
+    resumed way p q u v d =
+        let z : h - 0 ≡ h = omega arith in
+        record {
+          low = low;
+          stands = record {
+            opens = rw p (E .opens);
+            below = rw (p, q, u) B;
+            left-fits = rw (v, u, left-is) (rw (B .count-is) (left-below (wordAt t) n root r h (getD edges h 0) (E .left) (last / 2 ^ (h - 0)) (E .chosen)));
+          };
+          chosen = rw (p, v, left-is, d) (rw z at (E .chosen));
+          trail = record {
+            few = T .few;
+            edges-long = T .edges-long;
+            ends-long = T .ends-long;
+            top = T .top;
+            entry = λ k i j m.
+                let y : last / 2 ^ h / 2 ^ (k - h) ≡ last / 2 ^ (k - 0) =
+                div-div-eq-div-mul last (2 ^ h) (2 ^ (k - h)) ∙ ap (λ (b : ℕ). last / b) (sym (pow-add 2 h (k - h))) ∙ ap (λ (b : ℕ). last / 2 ^ b) (omega arith) in
+                rw (d, y) (T .entry k (omega arith) j m);
+          };
+        }
+
+-- before the first rank only the root is kept
+module _ (t s : List ℕ) (n root c : ℕ) (O : Opens t s root n) (c-is : c ≡ countBelow (under (wordAt t) root) (2 ^ n)) where
+  abbrev none : List ℕ
+  none = replicate 64 0
+
+  long : length none ≡ 64
+  long = length-replicate {A = ℕ} 64 0
+
+  inside : n < length none
+  inside = omega (arith, O .few, long)
+
+  top-is : getD (set none n c) n 0 ≡ c
+  top-is = getD-set-same none n c 0 inside
+
+  first-entries : (k : ℕ) → 0 ≤ k → k ≤ n → 0 < getD (set none n c) k 0 → Entry t s n root 0 k (getD (set none n root) k 0) (getD (set none n c) k 0) (0 / 2 ^ (k - 0))
+  first-entries k i j u =
+      elim (tri k n) [
+        | less l ↦ absurd (omega (arith, getD-set-other none n k c 0 (λ e. omega arith), getD-replicate {A = ℕ} 64 k 0 0 (omega (arith, O .few))))
+        | same l ↦
+            let some : 0 < c = rw (l, top-is) at u in
+            rw (l, top-is, getD-set-same none n root 0 inside, zero-div) (record {
+              opens = O;
+              left = 0;
+              chosen = chosen-first (wordAt t) n root 0 (omega (arith, c-is));
+              end-is = omega (arith, c-is);
+            })
+        | more l ↦ absurd (omega arith)
+      ]
+
+  pub trail-first : Trail t s n root 0 (set none n root) (set none n c) 0 0
+  trail-first = record {
+    few = O .few;
+    edges-long = simp length-set long;
+    ends-long = simp length-set long;
+    top = top-is ∙ c-is;
+    entry = first-entries;
+  }

@@ -1,0 +1,5 @@
+-- The laws of lists: the rules over a whole list, the way that is kept, and the theorem about each number alone.
+pub mod Listing
+pub mod Keeping
+pub mod Serving
+pub mod Alone

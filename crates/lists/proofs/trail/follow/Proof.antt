@@ -1,0 +1,71 @@
+-- `lists::trail::follow` meets its contract. The loop's invariant: the way is followed on, and its node's setting is the next. Assumes nothing.
+use native.Mathlib.Omega.{arith}
+use borrow.Author.Needs.{needs}
+use Rattle.lists.specs.Inner.{FollowsOn}
+use Rattle.lists.proofs.Keeping.{digits-few, advanced, next-keepable, reached}
+use Rattle.lists.proofs.trail.follow.Statement.{statement}
+use Rattle.lists.proofs.trail.follow.Tie as tie
+
+abbrev Inv-loop : tie.InvT-loop
+Inv-loop table sheet edges₀ ends₀ from r way₀ edges ends way = FollowsOn table sheet (r .0) edges₀ ends₀ (way₀ .height) way₀ edges ends (way .height) way
+
+abbrev μ-loop : tie.MeasureT-loop
+μ-loop table sheet edges₀ ends₀ from r way₀ edges ends way = way .height
+
+cross-requires : tie.Need-cross-requires Inv-loop μ-loop
+cross-requires c κs = c .before .before .before .before .pre
+
+loop-holds : tie.Need-loop-holds Inv-loop μ-loop
+loop-holds c n root F = F
+
+advance-requires : tie.Need-advance-requires Inv-loop μ-loop
+advance-requires c κs =
+    let turn = c .before .before in
+    let cross = turn .before in
+    let p = cross .before .before .before .before .before .pre in
+    let F = turn .loop .inv (p .0) (p .1) (cross .cross .ensures .0 (p .0) (p .1) (p .2)) in
+    let l = c .if1 .taken in
+    (F .stands, l, digits-few _ _ _ _ _ _ _ _ _ F l)
+
+keep-requires : tie.Need-keep-requires Inv-loop μ-loop
+keep-requires c κs =
+    let advance = c .before .before in
+    let turn = advance .before .before .before in
+    let cross = turn .before in
+    let p = cross .before .before .before .before .before .pre in
+    let F = turn .loop .inv (p .0) (p .1) (cross .cross .ensures .0 (p .0) (p .1) (p .2)) in
+    next-keepable _ _ _ _ _ _ _ _ _ F (advance .before .if1 .taken) _ (advance .advance .ensures)
+
+cross-requires-2 : tie.Need-cross-requires-2 Inv-loop μ-loop
+cross-requires-2 c κs =
+    let keep = c .before .before in
+    let advance = keep .before .before .before in
+    let turn = advance .before .before .before in
+    let cross = turn .before in
+    let p = cross .before .before .before .before .before .pre in
+    let F = turn .loop .inv (p .0) (p .1) (cross .cross .ensures .0 (p .0) (p .1) (p .2)) in
+    let k = keep .keep .ensures in
+    (p .0, p .1, advanced _ _ _ _ _ _ _ _ _ F (advance .before .if1 .taken) _ (advance .advance .ensures) _ _ (k .0) (k .1))
+
+loop-less : tie.Need-loop-less Inv-loop μ-loop
+loop-less c =
+    let l = c .before .before .before .before .before .before .before .if1 .taken in
+    omega (arith, c .cross2 .ensures .1)
+
+loop-again : tie.Need-loop-again Inv-loop μ-loop
+loop-again c n root F =
+    let keep = c .before .before .before in
+    let advance = keep .before .before .before in
+    let turn = advance .before .before .before in
+    let k = keep .keep .ensures in
+    c .cross2 .ensures .0 n root (advanced _ _ _ _ _ _ _ _ _ (turn .loop .inv n root F) (advance .before .if1 .taken) _ (advance .advance .ensures) _ _ (k .0) (k .1))
+
+returns : tie.Need-returns Inv-loop μ-loop
+returns c n root F =
+    let turn = c .before .before in
+    reached _ _ _ _ _ _ _ _ _ (turn .loop .inv n root (turn .before .cross .ensures .0 n root F)) (c .if1 .left)
+
+pub follow-spec : {M : Type 1} → statement M
+follow-spec =
+    tie.close
+    (tie.spec Inv-loop μ-loop cross-requires loop-holds advance-requires (λ c. search needs) keep-requires (λ c. search needs) cross-requires-2 loop-less loop-again returns)

@@ -1,0 +1,67 @@
+-- `lists::trail::next_setup` meets its contract. Assumes nothing.
+use mathlib.Core.Path.{refl}
+use native.Mathlib.Omega.{arith}
+use borrow.Author.Needs.{needs}
+use Rattle.lists.proofs.Keeping.{some-end, resumed-opens, left-fits, resumed}
+use Rattle.lists.proofs.trail.next_setup.Statement.{statement}
+use Rattle.lists.proofs.trail.next_setup.Tie as tie
+
+leave-requires : tie.Need-leave-requires
+leave-requires c κs = let p = c .before .before .before .pre in some-end _ _ _ _ _ _ _ _ (p .2)
+
+mul-t13 : tie.Need-mul-t13
+mul-t13 c =
+    let l = c .leave .ensures in
+    let o = resumed-opens _ _ _ _ _ _ _ _ (c .before .before .before .before .pre .2) _ (l .0) (l .1) in
+    record { fits = omega (arith, o .0) }
+
+element-copy-out-t16 : tie.Need-element-copy-out-t16
+element-copy-out-t16 c = let l = c .leave .ensures in resumed-opens _ _ _ _ _ _ _ _ (c .before .before .before .before .pre .2) _ (l .0) (l .1) .0
+
+look-below-requires : tie.Need-look-below-requires
+look-below-requires c κs = let leave = c .before in let l = leave .leave .ensures in resumed-opens _ _ _ _ _ _ _ _ (leave .before .before .before .before .pre .2) _ (l .0) (l .1) .1
+
+mul-t13-2 : tie.Need-mul-t13-2
+mul-t13-2 c =
+    let leave = c .before .before in
+    let l = leave .leave .ensures in
+    let o = resumed-opens _ _ _ _ _ _ _ _ (leave .before .before .before .before .pre .2) _ (l .0) (l .1) in
+    record { fits = omega (arith, o .0) }
+
+element-copy-out-t16-2 : tie.Need-element-copy-out-t16-2
+element-copy-out-t16-2 c = let leave = c .before .before in let l = leave .leave .ensures in resumed-opens _ _ _ _ _ _ _ _ (leave .before .before .before .before .pre .2) _ (l .0) (l .1) .0
+
+sub-t19 : tie.Need-sub-t19
+sub-t19 c = let l = c .before .before .before .before .leave .ensures in omega (arith, l .0)
+
+sub-t20 : tie.Need-sub-t20
+sub-t20 c =
+    let below = c .before .before .before in
+    let leave = below .before .before in
+    let l = leave .leave .ensures in
+    left-fits _ _ _ _ _ _ _ _ (leave .before .before .before .before .pre .2) _ (l .0) (l .1) _ _ (below .look-below .ensures)
+
+shr-t21 : tie.Need-shr-t21
+shr-t21 c =
+    let leave = c .before .before .before .before .before .before in
+    let l = leave .leave .ensures in
+    resumed-opens _ _ _ _ _ _ _ _ (leave .before .before .before .before .pre .2) _ (l .0) (l .1) .0
+
+follow-requires : tie.Need-follow-requires
+follow-requires c κs =
+    let below = c .before .before .before .before .before .before in
+    let leave = below .before .before in
+    let l = leave .leave .ensures in
+    let p = leave .before .before .before .before .pre in
+    (p .0, p .1, resumed _ _ _ _ _ _ _ _ (p .2) _ (l .0) (l .1) _ _ (below .look-below .ensures) _ refl refl refl refl refl)
+
+returns : tie.Need-returns
+returns c n root R =
+    let below = c .before .before .before .before .before .before .before in
+    let l = below .before .before .leave .ensures in
+    c .follow .ensures n root (resumed _ _ _ _ _ _ _ _ R _ (l .0) (l .1) _ _ (below .look-below .ensures) _ refl refl refl refl refl)
+
+pub next-setup-spec : {M : Type 1} → statement M
+next-setup-spec =
+    tie.close
+    (tie.spec leave-requires mul-t13 element-copy-out-t16 look-below-requires mul-t13-2 element-copy-out-t16-2 sub-t19 sub-t20 shr-t21 follow-requires returns)

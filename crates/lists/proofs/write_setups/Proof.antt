@@ -1,0 +1,101 @@
+-- `lists::write_setups` meets its contract. The loop's invariant: the first i setups are written, and the way to the last of them is kept. Assumes nothing.
+use Prim.Native.Nat.{ℕ, _-_, _≤_}
+use mathlib.Core.Path.{_≡_, _∙_}
+use native.Mathlib.Omega.{arith}
+use borrow.Author.Needs.{needs}
+use Rattle.lists.specs.Inner.{Trail}
+use Rattle.lists.proofs.Keeping.{trail-first}
+use Rattle.lists.proofs.Serving.{Serves, serves-first, serves-long, serves-resumes, serves-next}
+use Rattle.lists.proofs.write_setups.Statement.{statement}
+use Rattle.lists.proofs.write_setups.Tie as tie
+
+abbrev Inv-loop : tie.InvT-loop
+Inv-loop table sheet n ranks m setups₀ edges₀ ends₀ x₀ i₀ setups edges ends x i =
+    (i ≤ m) × ((root : ℕ) → Trail table sheet n root 0 edges₀ ends₀ 0 (x₀ .0) → Serves table sheet ranks n root m setups₀ i setups edges ends (x .0))
+
+abbrev μ-loop : tie.MeasureT-loop
+μ-loop table sheet n ranks m setups₀ edges₀ ends₀ x₀ i₀ setups edges ends x i = m - i
+
+mul-edges : tie.Need-mul-edges Inv-loop μ-loop
+mul-edges c = let l = c .before .before .before .before .pre .0 .few in record { fits = omega arith }
+
+array-write-edges : tie.Need-array-write-edges Inv-loop μ-loop
+array-write-edges c = let l = c .before .before .before .before .pre .0 .few in omega arith
+
+count-under-requires : tie.Need-count-under-requires Inv-loop μ-loop
+count-under-requires c κs = c .before .before .before .before .pre .0
+
+mul-ends : tie.Need-mul-ends Inv-loop μ-loop
+mul-ends c = let l = c .before .before .before .before .before .pre .0 .few in record { fits = omega arith }
+
+array-write-ends : tie.Need-array-write-ends Inv-loop μ-loop
+array-write-ends c = let l = c .before .before .before .before .before .pre .0 .few in omega arith
+
+loop-holds : tie.Need-loop-holds Inv-loop μ-loop
+loop-holds c = (omega arith, λ root T. serves-first _ _ _ _ _ _ _ _ _ _ T)
+
+word-at-requires : tie.Need-word-at-requires Inv-loop μ-loop
+word-at-requires c κs =
+    let l = c .loop-test .taken in
+    omega (arith, c .before .before .before .before .before .before .before .pre .1)
+
+next-setup-requires : tie.Need-next-setup-requires Inv-loop μ-loop
+next-setup-requires c κs =
+    let word = c .before .before in
+    let turn = word .before .before in
+    let count = turn .before in
+    let p = count .before .before .before .before .before .pre in
+    let S = turn .loop .inv .1 _ (trail-first _ _ _ _ _ (p .0) (count .count-under .ensures)) in
+    let l = word .before .loop-test .taken in
+    let e = word .word-at .ensures in
+    (_, _, serves-resumes _ _ _ _ _ _ _ _ _ _ _ _ S (p .2) l _ e (rw e (p .4 _ l)))
+
+put-word-requires : tie.Need-put-word-requires Inv-loop μ-loop
+put-word-requires c κs =
+    let turn = c .before .before .before .before .before .before in
+    let count = turn .before in
+    let p = count .before .before .before .before .before .pre in
+    let S = turn .loop .inv .1 _ (trail-first _ _ _ _ _ (p .0) (count .count-under .ensures)) in
+    let l = c .before .before .before .before .before .loop-test .taken in
+    omega (arith, serves-long _ _ _ _ _ _ _ _ _ _ _ _ S (p .2) (turn .loop .inv .0), p .2)
+
+loop-again : tie.Need-loop-again Inv-loop μ-loop
+loop-again c =
+    let put = c .before .before in
+    let next = put .before .before in
+    let word = next .before .before .before in
+    let turn = word .before .before in
+    let count = turn .before in
+    let p = count .before .before .before .before .before .pre in
+    let l = word .before .loop-test .taken in
+    let e = word .word-at .ensures in
+    let F = trail-first _ _ _ _ _ (p .0) (count .count-under .ensures) in (
+      omega arith,
+      λ root T.
+          let S = turn .loop .inv .1 root T in
+          let R = serves-resumes _ _ _ _ _ _ _ _ _ _ _ _ S (p .2) l _ e (omega (arith, e, p .4 _ l, F .top, T .top)) in
+          serves-next _ _ _ _ _ _ _ _ _ _ _ _ S (p .2) l _ e (p .3) _ _ _ (next .next-setup .ensures _ root R) _ (put .put-word .ensures),
+    )
+
+same-length : tie.Need-same-length Inv-loop μ-loop
+same-length c =
+    let turn = c .before in
+    let count = turn .before in
+    let p = count .before .before .before .before .before .pre in
+    let S = turn .loop .inv .1 _ (trail-first _ _ _ _ _ (p .0) (count .count-under .ensures)) in
+    serves-long _ _ _ _ _ _ _ _ _ _ _ _ S (p .2) (turn .loop .inv .0)
+
+returns : tie.Need-returns Inv-loop μ-loop
+returns c =
+    let turn = c .before in
+    let count = turn .before in
+    let a = count .before .before .before .before .before in
+    let S = turn .loop .inv .1 _ (trail-first _ _ _ _ _ (a .pre .0) (count .count-under .ensures)) in
+    let e : turn .loop .i ≡ a .args .m = omega (arith, turn .loop .inv .0) in
+    S .written ∙ rw e
+
+pub write-setups-spec : {M : Type 1} → statement M
+write-setups-spec =
+    tie.close
+    (tie.spec Inv-loop μ-loop mul-edges array-write-edges count-under-requires mul-ends array-write-ends loop-holds word-at-requires next-setup-requires put-word-requires
+    (λ c. search needs) (λ c. search needs) loop-again same-length returns)

@@ -1,0 +1,4 @@
+-- Unranking a list of numbers.
+pub mod Answers
+pub mod Operations
+pub mod Inner
