@@ -1,6 +1,6 @@
 -- "Each setup equals what unranking that number alone gives", as theorems about the two operations. Assumes nothing.
 use Prim.Native.Nat.{ℕ, _+_, _^_, _<_}
-use mathlib.Core.Path.{_≡_, refl, sym, ap, subst, _∙_}
+use mathlib.Core.Path.{_≡_, refl, sym, ap, _∙_}
 use mathlib.Core.Bool.{Bool}
 use mathlib.Core.List.{List}
 use native.Mathlib.Omega.{arith}
@@ -16,7 +16,6 @@ use Rattle.diagram.specs.Meaning.{permitted}
 use Rattle.diagram.specs.Answer.{Answer, value, refusal, andThen, pass}
 use Rattle.diagram.proofs.AnswerLaws.{refused-not, value-inj, then-some, then-value, each-all}
 use Rattle.checking.specs.Operations.{checking}
-use Rattle.checking.proofs.Bounds.{settings-fit}
 use Rattle.ranking.specs.Operations.{unrankSetup, unranking}
 use Rattle.ranking.proofs.Bounds.{setup-fits}
 use Rattle.lists.specs.Operations.{items, checkRising, atPlace, unrankItem, checkRanks, unrankItems, unrankingList, valueOf, setupAt, setupsBy, setupsAfter}

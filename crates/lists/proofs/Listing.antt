@@ -1,7 +1,7 @@
 -- The rules of a list, and its setups, in the terms of the code. Assumes nothing.
 use Prim.Native.Nat.{ℕ, zero, suc, _+_, _-_, _^_, _≤_, _<_}
-use mathlib.Core.Path.{_≡_, refl, sym, ap, subst, _∙_}
-use mathlib.Core.Bool.{Bool, true, false, cond}
+use mathlib.Core.Path.{_≡_, refl, sym, subst, _∙_}
+use mathlib.Core.Bool.{Bool, cond}
 use mathlib.Core.List.{List}
 use mathlib.Core.Option.{some}
 use native.Mathlib.Omega.{arith}
@@ -15,7 +15,6 @@ use Rattle.diagram.specs.Answer.{Answer, value, refusal, andThen, pass, each}
 use Rattle.diagram.specs.Reading.{IsHeader}
 use Rattle.diagram.proofs.AnswerLaws.{refused-not, each-all, each-next, all-each, each-refused}
 use Rattle.diagram.proofs.Select.{ranked}
-use Rattle.ranking.specs.Operations.{unrankSetup}
 use Rattle.ranking.proofs.Answering.{too-high, unranked-to}
 use Rattle.ranking.proofs.Numbering.{selects-unrank}
 use Rattle.lists.specs.Operations.{items, checkRising, atPlace, unrankItem, checkRanks, unrankItems, valueOf, unrankingList, setupAt, setupsBy, setupsAfter}

@@ -1,5 +1,5 @@
 -- Unranking a list of numbers: what is answered, and what stands in the list of setups afterwards. The sheet is left as the check does (`sheetAfter`). Assumes nothing.
-use Prim.Native.Nat.{ℕ, suc, _+_, _-_, _/_}
+use Prim.Native.Nat.{ℕ, _+_, _-_, _/_}
 use mathlib.Core.Bool.{Bool, cond}
 use mathlib.Core.List.{List}
 use lib.Dec.{ltb}
@@ -24,7 +24,7 @@ unfoldable pub atPlace : {A : Type 0} → ℕ → Answer A → Answer A
 atPlace place (value a) = value a
 atPlace place (refusal number _) = refusal number place
 
--- rank i among m: the setup that unranking that number alone gives, or its refusal, with the item as its place
+-- rank i: the setup that unranking that number alone gives, or its refusal, with the item as its place
 unfoldable pub unrankItem : (ℕ → ℕ) → ℕ → (ℕ → Bool) → ℕ → Answer ℕ
 unrankItem ranks n P i = atPlace (i + 1) (unrankSetup (ranks i) n P)
 

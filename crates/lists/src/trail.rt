@@ -32,7 +32,7 @@ fn keep(edges: &mut [u64; 64], ends: &mut [u64; 64], h: u64, way: Way, r: Rank)
     ends[i] = r.0 - way.left + way.count;
 }
 
-// Chooses the settings above the node reached, at which no node on the way looks.
+// Chooses the settings above the node reached, at which no node on the way looks. (In a loop of its own: here the compiler drops what `advance` does at a node.)
 fn cross(
     table: &[u8],
     sheet: &[u8],

@@ -1,3 +1,4 @@
 -- The samples that are proved.
 pub mod Samples
 pub mod Calls
+pub mod Lists

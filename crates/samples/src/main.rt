@@ -7,6 +7,7 @@ use diagram::Rank;
 use diagram::Setup;
 use division::Spanned;
 use libc::STDOUT_FILENO;
+use lists::Listed;
 use programs::say;
 use programs::say_number;
 use programs::say_refusal;
@@ -216,6 +217,46 @@ fn setup_of(name: &[u8], table: &[u8], r: u64) {
     say(b"\n");
 }
 
+// Item k of a list, if there is one.
+fn say_item(list: &[u8], k: usize) {
+    if k < list.len() / 8 {
+        say_number(b" ", words::word_at(list, k));
+    }
+}
+
+// A list of four items at most.
+fn say_items(list: &[u8]) {
+    for k in 0..4 {
+        say_item(list, k);
+    }
+}
+
+// The setups of a list of numbers, where there is room for them.
+fn say_list(name: &[u8], table: &[u8], ranks: &[u8], setups: &mut [u8]) {
+    say(name);
+    say(b", numbers");
+    say_items(ranks);
+    say(b":");
+    let mut sheet = [0u8; 32];
+    let listed = lists::unrank_list(table, ranks, &mut sheet, setups);
+    match listed {
+        Listed::Items(_) => say_items(setups),
+        Listed::Refused(r) => say_refusal(b" ", r),
+    }
+    say(b"\n");
+}
+
+// The setups of four numbers at most, in A.
+fn setups_of(ranks: &[u64]) {
+    let a = bytes_of(&A);
+    let list = bytes_of(ranks);
+    let mut setups = [0u8; 32];
+    if ranks.len() <= 4 {
+        let length = 8 * ranks.len();
+        say_list(b"A", &a, &list[0..length], &mut setups[0..length]);
+    }
+}
+
 // The size of part j of k of A.
 fn say_size(k: u64, j: u64) {
     let a = bytes_of(&A);
@@ -283,6 +324,26 @@ fn numbers() {
     setup_of(b"0C00000000000001", &empty[0..8], 0);
 }
 
+fn lists_of_numbers() {
+    setups_of(&[0, 4, 5]);
+    setups_of(&[5, 5]);
+    setups_of(&[4, 3]);
+    setups_of(&[0, 6]);
+    setups_of(&[6, 5]);
+    setups_of(&[]);
+    let a = bytes_of(&A);
+    let empty = bytes_of(&[0x0C00000000000001]);
+    let list = bytes_of(&[0, 4]);
+    let mut setups = [0u8; 16];
+    say_list(b"A, room for one", &a, &list[0..16], &mut setups[0..15]);
+    say_list(
+        b"0C00000000000001",
+        &empty[0..8],
+        &list[0..7],
+        &mut setups[0..0],
+    );
+}
+
 fn divisions() {
     sizes(4, 4);
     sizes(8, 8);
@@ -301,5 +362,6 @@ fn main() {
     setup_too_large();
     sheet_too_short();
     numbers();
+    lists_of_numbers();
     divisions();
 }

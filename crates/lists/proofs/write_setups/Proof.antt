@@ -4,7 +4,7 @@ use mathlib.Core.Path.{_≡_, _∙_}
 use native.Mathlib.Omega.{arith}
 use borrow.Author.Needs.{needs}
 use Rattle.lists.specs.Inner.{Trail}
-use Rattle.lists.proofs.Keeping.{trail-first}
+use Rattle.lists.proofs.Resuming.{trail-first}
 use Rattle.lists.proofs.Serving.{Serves, serves-first, serves-long, serves-resumes, serves-next}
 use Rattle.lists.proofs.write_setups.Statement.{statement}
 use Rattle.lists.proofs.write_setups.Tie as tie

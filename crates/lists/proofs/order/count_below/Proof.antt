@@ -1,6 +1,5 @@
 -- `lists::order::count_below` meets its contract. The loop's invariant: the ranks from i on are not below c. Assumes nothing.
 use Prim.Native.Nat.{ℕ, _≤_, _<_}
-use mathlib.Core.Path.{_≡_, ap, subst}
 use native.Mathlib.Omega.{arith}
 use borrow.Author.Needs.{needs}
 use Rattle.words.specs.Words.{wordAt}

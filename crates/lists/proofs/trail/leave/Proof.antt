@@ -2,8 +2,7 @@
 use Prim.Native.Nat.{ℕ, _-_, _≤_, _<_}
 use native.Mathlib.Omega.{arith}
 use lib.ListN.{getD}
-use borrow.Author.Needs.{needs}
-use Rattle.lists.proofs.Keeping.{not-left, one-more-left, first-left}
+use Rattle.lists.proofs.Resuming.{not-left, one-more-left, first-left}
 use Rattle.lists.proofs.trail.leave.Statement.{statement}
 use Rattle.lists.proofs.trail.leave.Tie as tie
 

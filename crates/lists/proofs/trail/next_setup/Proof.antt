@@ -1,8 +1,7 @@
 -- `lists::trail::next_setup` meets its contract. Assumes nothing.
 use mathlib.Core.Path.{refl}
 use native.Mathlib.Omega.{arith}
-use borrow.Author.Needs.{needs}
-use Rattle.lists.proofs.Keeping.{some-end, resumed-opens, left-fits, resumed}
+use Rattle.lists.proofs.Resuming.{some-end, resumed-opens, left-fits, resumed}
 use Rattle.lists.proofs.trail.next_setup.Statement.{statement}
 use Rattle.lists.proofs.trail.next_setup.Tie as tie
 

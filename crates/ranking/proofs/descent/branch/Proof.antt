@@ -1,5 +1,4 @@
 -- `ranking::descent::branch` meets its contract. Assumes nothing.
-use Prim.Native.Nat.{ℕ}
 use mathlib.Core.Path.{refl}
 use native.Mathlib.Nat.{le-refl}
 use borrow.Author.Needs.{needs}
