@@ -1,5 +1,6 @@
 /*
- * The setup book: rank, unrank, unrank a list and part-write over a reduced OBDD with complement edges.
+ * The setup book: rank, unrank, also of a list, and part-write over a reduced OBDD with complement
+ * edges.
  *
  * A table is a decision diagram over n settings (0 to 63) with N nodes (0 to 65,535) as a row of
  * N + 1 words of 64 bits, most significant byte first; docs/FORMAT.md has the fields. It permits
@@ -12,16 +13,16 @@
  * that permits these setups only, with the fewest nodes that such a table can have, N' (none if the
  * part is empty).
  *
- * A list is a row of numbers of 8 bytes, most significant byte first; up to seven spare bytes at its
- * end are ignored.
+ * A list is a row of numbers of 8 bytes, most significant byte first; up to seven spare bytes at
+ * its end are ignored.
  *
- * Memory: `table` has table_len bytes and is only read, and so is the list `ranks`. `sheet` is a work
- * sheet of sheet_len bytes: 8 * (N + 1) are needed, as many as an accepted table has, and for
- * part-write 8 * (4 * N + 512). `out` receives the part: 8 * (N' + 1) of its out_len bytes are needed.
- * `setups` receives a list as long as `ranks`. These memories share no byte, and nobody else writes
- * them during a call. No pointer is null; none needs an alignment but `answer`, that of its numbers.
- * Lengths and contents may be any: there is nothing to check before a call. A call allocates nothing,
- * keeps nothing and takes about 70 KiB of stack.
+ * Memory: `table` has table_len bytes and is only read, and so is the list `ranks`. `sheet` is a
+ * work sheet of sheet_len bytes: 8 * (N + 1) are needed, as many as an accepted table has, and for
+ * part-write 8 * (4 * N + 512). `out` receives the part: 8 * (N' + 1) of its out_len bytes are
+ * needed. `setups` receives a list of as many items as `ranks` has. These memories share no byte,
+ * and nobody else writes them during a call. No pointer is null; none needs an alignment but
+ * `answer`, that of its numbers. Lengths and contents may be any: there is nothing to check before
+ * a call. A call allocates nothing, keeps nothing and takes about 70 KiB of stack.
  *
  * Sheet afterwards, its first N + 1 words (most significant byte first), by what was answered:
  *     refusals 1 to 8, and 10          unchanged
@@ -34,11 +35,11 @@
  * Out memory and `setups` afterwards: the part, or the setups, in front, if they were written; all
  * other bytes are unchanged.
  *
- * Answer, of a function with `answer`: 0, with the result in answer[0], or the number of the refusal,
- * with its place in answer[0]; the other words of `answer` are 0. Of the others: the result, which is
- * below 2^63, or 2^63 + 2^32 * refusal + place. The place is the record k (1 to N) for refusals 4 to
- * 9, the item (from 1) for 17 and for 14 of a list, otherwise 0. The first refusal that holds is
- * answered, in this order:
+ * Answer, of a function with `answer`: 0, with the result in answer[0], or the number of the
+ * refusal, with its place in answer[0]; the other words of `answer` are 0. Of the others: the
+ * result, which is below 2^63, or 2^63 + 2^32 * refusal + place. The place is the record k (1 to N)
+ * for refusals 4 to 9, the item (from 1) for 17 and for 14 of a list, otherwise 0. The first refusal
+ * that holds is answered, in this order:
  *      1  table_len is under 8
  *      2  N is above 65,535
  *      1  table_len is not 8 * (N + 1)
