@@ -37,9 +37,9 @@
  *
  * Answer, of a function with `answer`: 0, with the result in answer[0], or the number of the
  * refusal, with its place in answer[0]; the other words of `answer` are 0. Of the others: the
- * result, which is below 2^63, or 2^63 + 2^32 * refusal + place. The place is the record k (1 to N)
- * for refusals 4 to 9, the item (from 1) for 17 and for 14 of a list, otherwise 0. The first refusal
- * that holds is answered, in this order:
+ * result, which is below 2^63, or 2^63 + 2^32 * refusal + place. The place is the record k (1 to
+ * N) for refusals 4 to 9, the item (from 1) for 17 and for 14 of a list, otherwise 0. The first
+ * refusal that holds is answered, in this order:
  *      1  table_len is under 8
  *      2  N is above 65,535
  *      1  table_len is not 8 * (N + 1)
