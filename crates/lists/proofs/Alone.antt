@@ -18,14 +18,14 @@ use Rattle.diagram.proofs.AnswerLaws.{refused-not, value-inj, then-some, then-v
 use Rattle.checking.specs.Operations.{checking}
 use Rattle.ranking.specs.Operations.{unrankSetup, unranking}
 use Rattle.ranking.proofs.Bounds.{setup-fits}
-use Rattle.lists.specs.Operations.{items, checkRising, atPlace, unrankItem, checkRanks, unrankItems, unrankingList, valueOf, setupAt, setupsBy, setupsAfter}
+use Rattle.lists.specs.Operations.{items, checkRising, atPlace, checkRank, checkRanks, unrankItems, unrankingList, valueOf, setupAt, setupsBy, setupsAfter}
 
 -- an item that passes rule 14 is unranked alone
-item-alone : (ranks : ℕ → ℕ) (n : ℕ) (P : ℕ → Bool) (i : ℕ) → andThen (unrankItem ranks n P i) (λ _. pass) ≡ pass → unrankSetup (ranks i) n P ≡ value (setupAt ranks n P i)
-unfolding setupAt unrankItem atPlace valueOf
+item-alone : (ranks : ℕ → ℕ) (n : ℕ) (P : ℕ → Bool) (i : ℕ) → checkRank ranks n P i ≡ pass → unrankSetup (ranks i) n P ≡ value (setupAt ranks n P i)
+unfolding checkRank setupAt atPlace valueOf
 item-alone ranks n P i e = go (unrankSetup (ranks i) n P) (then-some (atPlace (i + 1) (unrankSetup (ranks i) n P)) _ e)
   where
-    go : (a : Answer ℕ) → (x : ℕ) × (atPlace (i + 1) a ≡ value x) × (pass ≡ pass) → a ≡ value (valueOf (atPlace (i + 1) a))
+    go : (a : Answer ℕ) → (x : ℕ) × (atPlace (i + 1) a ≡ value x) × (pass ≡ pass) → a ≡ value (valueOf a)
     go (value x) s = refl
     go (refusal number place) s = absurd (refused-not (s .1))
 

@@ -76,10 +76,6 @@ module _ (t s : List ℕ) (n root r : ℕ) (edges ends : List ℕ) (h : ℕ) (wa
   pub digits-few : 0 < h → way .digits < 2 ^ 63
   digits-few tall = omega (arith, digits-fit t s n root r h (way .edge .value) (way .left) (way .digits) (F .stands .opens) tall (F .chosen) (F .trail .few))
 
-  -- its node is no higher than the settings left
-  pub way-low : way .height ≤ h
-  way-low = omega (arith, F .stands .opens .low, F .stands .below .height-is)
-
   -- followed to the end, it leads to the setup
   pub reached : h ≤ 0 → Reaches t s n root r edges ends (way .digits)
   reached z =

@@ -46,12 +46,15 @@ module _ (t s : List ℕ) (n root r : ℕ) (edges ends : List ℕ) (last : ℕ) 
   E : Entry t s n root r h (getD edges h 0) (getD ends h 0) (last / 2 ^ (h - 0))
   E = T .entry h (omega arith) low above
 
+  left-few : E .left < countBelow (under (wordAt t) (getD edges h 0)) (2 ^ h)
+  left-few = left-below (wordAt t) n root r h (getD edges h 0) (E .left) (last / 2 ^ (h - 0)) (E .chosen)
+
   pub resumed-opens : (h < 64) × Opens t s (getD edges h 0) h
   resumed-opens = (omega (arith, low, T .few), E .opens)
 
   module _ (g c : ℕ) (B : IsBelow (wordAt t) (getD edges h 0) h g c) where
     left-is : c - (getD ends h 0 - r) ≡ E .left
-    left-is = omega (arith, E .end-is, B .count-is, left-below (wordAt t) n root r h (getD edges h 0) (E .left) (last / 2 ^ (h - 0)) (E .chosen))
+    left-is = omega (arith, E .end-is, B .count-is, left-few)
 
     pub left-fits : getD ends h 0 - r ≤ c
     left-fits = omega (arith, E .end-is, B .count-is)
@@ -64,7 +67,7 @@ module _ (t s : List ℕ) (n root r : ℕ) (edges ends : List ℕ) (last : ℕ) 
           stands = record {
             opens = rw p (E .opens);
             below = rw (p, q, u) B;
-            left-fits = rw (v, u, left-is) (rw (B .count-is) (left-below (wordAt t) n root r h (getD edges h 0) (E .left) (last / 2 ^ (h - 0)) (E .chosen)));
+            left-fits = rw (v, u, left-is) (rw (B .count-is) left-few);
           };
           chosen = rw (p, v, left-is, d) (rw z at (E .chosen));
           trail = record {

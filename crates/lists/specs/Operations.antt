@@ -15,22 +15,26 @@ use Rattle.ranking.specs.Operations.{unrankSetup}
 abbrev pub items : List ℕ → ℕ
 items list = length list / 8
 
--- rule 17, of m ranks: none is below the one before it
+-- rule 17: the rank after rank i is not below it
+unfoldable pub checkRise : (ℕ → ℕ) → ℕ → Answer (Unit {0})
+checkRise ranks i = cond (ltb (ranks (i + 1)) (ranks i)) (refusal 17 (i + 2)) pass
+
+-- ... of m ranks
 unfoldable pub checkRising : (ℕ → ℕ) → ℕ → Answer (Unit {0})
-checkRising ranks m = each (λ i. cond (ltb (ranks (i + 1)) (ranks i)) (refusal 17 (i + 2)) pass) (m - 1)
+checkRising ranks m = each (checkRise ranks) (m - 1)
 
 -- a refusal at another place
 unfoldable pub atPlace : {A : Type 0} → ℕ → Answer A → Answer A
 atPlace place (value a) = value a
 atPlace place (refusal number _) = refusal number place
 
--- rank i: the setup that unranking that number alone gives, or its refusal, with the item as its place
-unfoldable pub unrankItem : (ℕ → ℕ) → ℕ → (ℕ → Bool) → ℕ → Answer ℕ
-unrankItem ranks n P i = atPlace (i + 1) (unrankSetup (ranks i) n P)
+-- rule 14: rank i has a setup, or is refused as that number alone is, with the item as its place
+unfoldable pub checkRank : (ℕ → ℕ) → ℕ → (ℕ → Bool) → ℕ → Answer (Unit {0})
+checkRank ranks n P i = andThen (atPlace (i + 1) (unrankSetup (ranks i) n P)) (λ _. pass)
 
--- rule 14, of m ranks: each has a setup
+-- ... of m ranks
 unfoldable pub checkRanks : (ℕ → ℕ) → ℕ → ℕ → (ℕ → Bool) → Answer (Unit {0})
-checkRanks ranks m n P = each (λ i. andThen (unrankItem ranks n P i) (λ _. pass)) m
+checkRanks ranks m n P = each (checkRank ranks n P) m
 
 -- the setups of a list of ranks, where there is room for `room`: rule 18, then 17 over the whole list, then 14 over the whole list; how many there are
 unfoldable pub unrankItems : List ℕ → ℕ → ℕ → (ℕ → Bool) → Answer ℕ
@@ -49,9 +53,9 @@ unfoldable pub valueOf : Answer ℕ → ℕ
 valueOf (value v) = v
 valueOf (refusal number place) = 0
 
--- the setup of rank i
+-- the setup of rank i: what unranking that number alone gives
 unfoldable pub setupAt : (ℕ → ℕ) → ℕ → (ℕ → Bool) → ℕ → ℕ
-setupAt ranks n P i = valueOf (unrankItem ranks n P i)
+setupAt ranks n P i = valueOf (unrankSetup (ranks i) n P)
 
 -- the list of setups after an answer: the setups, then what stood there; or, after a refusal, all as before
 unfoldable pub setupsBy : (ℕ → ℕ) → ℕ → (ℕ → Bool) → Answer ℕ → List ℕ → List ℕ

@@ -20,10 +20,14 @@ use Rattle.ranking.specs.Inner.{Chosen, IsBelow, IsChoice, Stands, Cross
 use Rattle.ranking.proofs.Opening.{high-node, cofactor-opens}
 use Rattle.ranking.proofs.Choosing.{chosen-next}
 
--- no node on a way is higher than the settings left: where it is as high, its setting is the next one
+-- no node on a way is higher than the settings left
+pub stands-low : (t s : List ℕ) (h : ℕ) (way : Way) → Stands t s h way → way .height ≤ h
+stands-low t s h way S = omega (arith, S .opens .low, S .below .height-is)
+
+-- where it is as high, its setting is the next one
 module _ (t s : List ℕ) (h : ℕ) (way : Way) (S : Stands t s h way) (l : h ≤ way .height) where
   reached : h ≡ way .height
-  reached = omega (arith, S .opens .low, S .below .height-is)
+  reached = omega (arith, stands-low t s h way S)
 
   pub at-top : (h ≡ way .height) × Stands t s (way .height) way
   at-top = (reached, subst (λ (g : ℕ). Stands t s g way) reached S)

@@ -1,9 +1,8 @@
 -- `lists::unrank_items` meets its contract: rule by rule. Assumes nothing.
-use mathlib.Core.Path.{sym, ap, _∙_}
 use native.Mathlib.Omega.{arith}
 use borrow.Author.Needs.{needs}
-use Rattle.rules.specs.Refusals.{verdictAs}
-use Rattle.lists.proofs.Listing.{rising-list, room-short, falls-refused, range-refused, all-fine, list-served}
+use Rattle.lists.proofs.Ranks.{all-fine}
+use Rattle.lists.proofs.Answering.{room-short, passed-rising, falls-refused, range-refused, list-served}
 use Rattle.lists.proofs.unrank_items.Statement.{statement}
 use Rattle.lists.proofs.unrank_items.Tie as tie
 
@@ -13,20 +12,19 @@ returns c = room-short _ _ _ _ (c .if1 .taken)
 returns-2 : tie.Need-returns-2
 returns-2 c =
     let check = c .before .before .before in
-    falls-refused _ _ _ _ (check .before .if1 .left) _ _ (sym (ap verdictAs (c .before .rising .given .1)) ∙ check .check-rising .ensures)
+    falls-refused _ _ (check .check-rising .ensures) _ _ _ (check .before .if1 .left) _ (c .before .rising .given .1)
 
 count-below-requires : tie.Need-count-below-requires
 count-below-requires c κs =
     let told = c .before in
-    (omega arith, rising-list _ _ (sym (told .before .before .check-rising .ensures) ∙ ap verdictAs (told .enum-told .given .1)))
+    (omega arith, passed-rising _ _ (told .before .before .check-rising .ensures) (told .enum-told .given .1))
 
 returns-3 : tie.Need-returns-3
 returns-3 c =
     let count = c .before in
     let told = count .before .before in
     let check = told .before .before in
-    range-refused _ _ _ _ (check .before .if1 .left) (sym (check .check-rising .ensures) ∙ ap verdictAs (told .enum-told .given .1)) _ _
-    (count .before .count-under .ensures) (count .count-below .ensures) (c .if2 .taken)
+    range-refused _ _ (check .check-rising .ensures) _ _ _ (check .before .if1 .left) (told .enum-told .given .1) _ _ (count .before .count-under .ensures) (count .count-below .ensures) (c .if2 .taken)
 
 write-setups-requires : tie.Need-write-setups-requires
 write-setups-requires c κs =
@@ -36,7 +34,7 @@ write-setups-requires c κs =
       check .before .before .before .before .before .before .pre,
       omega arith,
       omega (arith, check .before .if1 .left),
-      rising-list _ _ (sym (check .check-rising .ensures) ∙ ap verdictAs (told .enum-told .given .1)),
+      passed-rising _ _ (check .check-rising .ensures) (told .enum-told .given .1),
       all-fine _ _ _ _ _ _ (count .before .count-under .ensures) (count .count-below .ensures) (c .before .if2 .left),
     )
 
@@ -46,7 +44,7 @@ returns-4 c =
     let count = write .before .before .before in
     let told = count .before .before in
     let check = told .before .before in
-    list-served _ _ _ _ (check .before .if1 .left) (sym (check .check-rising .ensures) ∙ ap verdictAs (told .enum-told .given .1)) _ _
+    list-served _ _ (check .check-rising .ensures) _ _ _ (check .before .if1 .left) (told .enum-told .given .1) _ _
     (count .before .count-under .ensures) (count .count-below .ensures) (write .before .before .if2 .left) _ (write .write-setups .ensures)
 
 pub unrank-items-spec : {M : Type 1} → statement M

@@ -4,7 +4,7 @@ use borrow.Author.Needs.{needs}
 use Rattle.checking.specs.Inner.{IsRefused}
 use Rattle.checking.proofs.Accepting.{enough, handed-on, table-long, root-opens, answered}
 use Rattle.lists.specs.Operations.{unrankItems, unrankingList}
-use Rattle.lists.proofs.Listing.{setups-kept, setups-left}
+use Rattle.lists.proofs.Answering.{setups-kept, setups-left}
 use Rattle.lists.proofs.unrank_list.Statement.{statement}
 use Rattle.lists.proofs.unrank_list.Tie as tie
 

@@ -6,7 +6,7 @@ use borrow.Author.Needs.{needs}
 use Rattle.words.specs.Words.{wordAt}
 use Rattle.diagram.specs.Answer.{pass}
 use Rattle.lists.specs.Operations.{checkRising}
-use Rattle.lists.proofs.Listing.{rising-one, rising-falls, rising-next, rising-all}
+use Rattle.lists.proofs.Ranks.{rising-one, rising-falls, rising-next, rising-all}
 use Rattle.lists.proofs.order.check_rising.Statement.{statement}
 use Rattle.lists.proofs.order.check_rising.Tie as tie
 

@@ -3,7 +3,7 @@ use Prim.Native.Nat.{ℕ, _≤_, _<_}
 use native.Mathlib.Omega.{arith}
 use borrow.Author.Needs.{needs}
 use Rattle.words.specs.Words.{wordAt}
-use Rattle.lists.proofs.Listing.{parted-here, parted-down, parted-none}
+use Rattle.lists.proofs.Ranks.{parted-here, parted-down, parted-none}
 use Rattle.lists.proofs.order.count_below.Statement.{statement}
 use Rattle.lists.proofs.order.count_below.Tie as tie
 

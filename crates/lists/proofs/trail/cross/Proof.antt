@@ -2,8 +2,9 @@
 use Prim.Native.Nat.{_≤_}
 use native.Mathlib.Omega.{arith}
 use borrow.Author.Needs.{needs}
-use Rattle.lists.specs.Inner.{FollowsOn}
-use Rattle.lists.proofs.Keeping.{digits-few, advanced, next-keepable, way-low, at-node}
+use Rattle.ranking.proofs.Ways.{stands-low}
+use Rattle.lists.specs.Inner.{Follows, FollowsOn}
+use Rattle.lists.proofs.Keeping.{digits-few, advanced, next-keepable, at-node}
 use Rattle.lists.proofs.trail.cross.Statement.{statement}
 use Rattle.lists.proofs.trail.cross.Tie as tie
 
@@ -16,21 +17,25 @@ abbrev μ-loop : tie.MeasureT-loop
 loop-holds : tie.Need-loop-holds Inv-loop μ-loop
 loop-holds c = (λ n root F. F, omega arith)
 
+-- at the loop's head: the function's entry, and that the way it was given is followed on
+abbrev entry : tie.At-loop Inv-loop μ-loop → tie.Start Inv-loop μ-loop
+entry c = c .before .before .before
+
+followed : (c : tie.At-loop Inv-loop μ-loop) → let a = entry c .args in let p = entry c .pre in
+    Follows (a .table .now) (a .sheet .now) (p .0) (p .1) (a .r .0) (c .loop .edges) (c .loop .ends) (c .loop .h) (c .loop .way)
+followed c = let p = entry c .pre in c .loop .inv .0 (p .0) (p .1) (p .2)
+
 advance-requires : tie.Need-advance-requires Inv-loop μ-loop
 advance-requires c κs =
-    let turn = c .before .before in
-    let p = turn .before .before .before .pre in
-    let F = turn .loop .inv .0 (p .0) (p .1) (p .2) in
+    let F = followed (c .before .before) in
     let l = c .if1 .taken in
     (F .stands, omega arith, digits-few _ _ _ _ _ _ _ _ _ F (omega arith))
 
 keep-requires : tie.Need-keep-requires Inv-loop μ-loop
 keep-requires c κs =
     let advance = c .before .before in
-    let turn = advance .before .before .before in
-    let p = turn .before .before .before .pre in
     let l = advance .before .if1 .taken in
-    next-keepable _ _ _ _ _ _ _ _ _ (turn .loop .inv .0 (p .0) (p .1) (p .2)) (omega arith) _ (advance .advance .ensures)
+    next-keepable _ _ _ _ _ _ _ _ _ (followed (advance .before .before .before)) (omega arith) _ (advance .advance .ensures)
 
 loop-again : tie.Need-loop-again Inv-loop μ-loop
 loop-again c =
@@ -43,9 +48,7 @@ loop-again c =
 returns : tie.Need-returns Inv-loop μ-loop
 returns c =
     let turn = c .before .before in
-    let p = turn .before .before .before .pre in
-    let F = turn .loop .inv .0 (p .0) (p .1) (p .2) in
-    (λ n root F. at-node _ _ _ _ _ _ _ _ _ (turn .loop .inv .0 n root F) (c .if1 .left), omega (arith, turn .loop .inv .1, way-low _ _ _ _ _ _ _ _ _ F))
+    (λ n root F. at-node _ _ _ _ _ _ _ _ _ (turn .loop .inv .0 n root F) (c .if1 .left), omega (arith, turn .loop .inv .1, stands-low _ _ _ _ (followed turn .stands)))
 
 pub cross-spec : {M : Type 1} → statement M
 cross-spec =

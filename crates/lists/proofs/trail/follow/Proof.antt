@@ -1,7 +1,7 @@
 -- `lists::trail::follow` meets its contract. The loop's invariant: the way is followed on, and its node's setting is the next. Assumes nothing.
 use native.Mathlib.Omega.{arith}
 use borrow.Author.Needs.{needs}
-use Rattle.lists.specs.Inner.{FollowsOn}
+use Rattle.lists.specs.Inner.{Follows, FollowsOn}
 use Rattle.lists.proofs.Keeping.{digits-few, advanced, next-keepable, reached}
 use Rattle.lists.proofs.trail.follow.Statement.{statement}
 use Rattle.lists.proofs.trail.follow.Tie as tie
@@ -18,34 +18,32 @@ cross-requires c κs = c .before .before .before .before .pre
 loop-holds : tie.Need-loop-holds Inv-loop μ-loop
 loop-holds c n root F = F
 
+-- at the loop's head: the function's entry, and that the way it was given is followed on
+abbrev entry : tie.At-loop Inv-loop μ-loop → tie.Start Inv-loop μ-loop
+entry c = c .before .before .before .before .before .before
+
+followed : (c : tie.At-loop Inv-loop μ-loop) → let a = entry c .args in let p = entry c .pre in
+    Follows (a .table .now) (a .sheet .now) (p .0) (p .1) (a .r .0) (c .loop .edges) (c .loop .ends) (c .loop .way .height) (c .loop .way)
+followed c = let p = entry c .pre in c .loop .inv (p .0) (p .1) (c .before .cross .ensures .0 (p .0) (p .1) (p .2))
+
 advance-requires : tie.Need-advance-requires Inv-loop μ-loop
 advance-requires c κs =
-    let turn = c .before .before in
-    let cross = turn .before in
-    let p = cross .before .before .before .before .before .pre in
-    let F = turn .loop .inv (p .0) (p .1) (cross .cross .ensures .0 (p .0) (p .1) (p .2)) in
+    let F = followed (c .before .before) in
     let l = c .if1 .taken in
     (F .stands, l, digits-few _ _ _ _ _ _ _ _ _ F l)
 
 keep-requires : tie.Need-keep-requires Inv-loop μ-loop
 keep-requires c κs =
     let advance = c .before .before in
-    let turn = advance .before .before .before in
-    let cross = turn .before in
-    let p = cross .before .before .before .before .before .pre in
-    let F = turn .loop .inv (p .0) (p .1) (cross .cross .ensures .0 (p .0) (p .1) (p .2)) in
-    next-keepable _ _ _ _ _ _ _ _ _ F (advance .before .if1 .taken) _ (advance .advance .ensures)
+    next-keepable _ _ _ _ _ _ _ _ _ (followed (advance .before .before .before)) (advance .before .if1 .taken) _ (advance .advance .ensures)
 
 cross-requires-2 : tie.Need-cross-requires-2 Inv-loop μ-loop
 cross-requires-2 c κs =
     let keep = c .before .before in
     let advance = keep .before .before .before in
     let turn = advance .before .before .before in
-    let cross = turn .before in
-    let p = cross .before .before .before .before .before .pre in
-    let F = turn .loop .inv (p .0) (p .1) (cross .cross .ensures .0 (p .0) (p .1) (p .2)) in
     let k = keep .keep .ensures in
-    (p .0, p .1, advanced _ _ _ _ _ _ _ _ _ F (advance .before .if1 .taken) _ (advance .advance .ensures) _ _ (k .0) (k .1))
+    (_, _, advanced _ _ _ _ _ _ _ _ _ (followed turn) (advance .before .if1 .taken) _ (advance .advance .ensures) _ _ (k .0) (k .1))
 
 loop-less : tie.Need-loop-less Inv-loop μ-loop
 loop-less c =

@@ -1,6 +1,9 @@
 -- `lists::trail::next_setup` meets its contract. Assumes nothing.
+use Prim.Native.Nat.{_<_}
 use mathlib.Core.Path.{refl}
 use native.Mathlib.Omega.{arith}
+use lib.ListN.{getD}
+use Rattle.counting.specs.Inner.{Opens}
 use Rattle.lists.proofs.Resuming.{some-end, resumed-opens, left-fits, resumed}
 use Rattle.lists.proofs.trail.next_setup.Statement.{statement}
 use Rattle.lists.proofs.trail.next_setup.Tie as tie
@@ -8,27 +11,24 @@ use Rattle.lists.proofs.trail.next_setup.Tie as tie
 leave-requires : tie.Need-leave-requires
 leave-requires c κs = let p = c .before .before .before .pre in some-end _ _ _ _ _ _ _ _ (p .2)
 
+-- where the trail is left, it can be gone on
+left-open : (c : tie.After-leave) → let h = c .leave .result in let a = c .before .before .before .before .args in (h < 64) × Opens (a .table .now) (a .sheet .now) (getD (a .edges .now) h 0) h
+left-open c = let l = c .leave .ensures in resumed-opens _ _ _ _ _ _ _ _ (c .before .before .before .before .pre .2) _ (l .0) (l .1)
+
 mul-t13 : tie.Need-mul-t13
-mul-t13 c =
-    let l = c .leave .ensures in
-    let o = resumed-opens _ _ _ _ _ _ _ _ (c .before .before .before .before .pre .2) _ (l .0) (l .1) in
-    record { fits = omega (arith, o .0) }
+mul-t13 c = record { fits = omega (arith, left-open c .0) }
 
 element-copy-out-t16 : tie.Need-element-copy-out-t16
-element-copy-out-t16 c = let l = c .leave .ensures in resumed-opens _ _ _ _ _ _ _ _ (c .before .before .before .before .pre .2) _ (l .0) (l .1) .0
+element-copy-out-t16 c = left-open c .0
 
 look-below-requires : tie.Need-look-below-requires
-look-below-requires c κs = let leave = c .before in let l = leave .leave .ensures in resumed-opens _ _ _ _ _ _ _ _ (leave .before .before .before .before .pre .2) _ (l .0) (l .1) .1
+look-below-requires c κs = left-open (c .before) .1
 
 mul-t13-2 : tie.Need-mul-t13-2
-mul-t13-2 c =
-    let leave = c .before .before in
-    let l = leave .leave .ensures in
-    let o = resumed-opens _ _ _ _ _ _ _ _ (leave .before .before .before .before .pre .2) _ (l .0) (l .1) in
-    record { fits = omega (arith, o .0) }
+mul-t13-2 c = record { fits = omega (arith, left-open (c .before .before) .0) }
 
 element-copy-out-t16-2 : tie.Need-element-copy-out-t16-2
-element-copy-out-t16-2 c = let leave = c .before .before in let l = leave .leave .ensures in resumed-opens _ _ _ _ _ _ _ _ (leave .before .before .before .before .pre .2) _ (l .0) (l .1) .0
+element-copy-out-t16-2 c = left-open (c .before .before) .0
 
 sub-t19 : tie.Need-sub-t19
 sub-t19 c = let l = c .before .before .before .before .leave .ensures in omega (arith, l .0)
@@ -41,10 +41,7 @@ sub-t20 c =
     left-fits _ _ _ _ _ _ _ _ (leave .before .before .before .before .pre .2) _ (l .0) (l .1) _ _ (below .look-below .ensures)
 
 shr-t21 : tie.Need-shr-t21
-shr-t21 c =
-    let leave = c .before .before .before .before .before .before in
-    let l = leave .leave .ensures in
-    resumed-opens _ _ _ _ _ _ _ _ (leave .before .before .before .before .pre .2) _ (l .0) (l .1) .0
+shr-t21 c = left-open (c .before .before .before .before .before .before) .0
 
 follow-requires : tie.Need-follow-requires
 follow-requires c κs =
