@@ -65,7 +65,7 @@ static struct numbers numbers_of(enum operation op, const struct table *t, struc
     uint64_t count = t->total, all = (uint64_t)1 << t->settings, r = next_random(&p->seed);
     uint64_t setups[] = {0, all - 1, all, all + 1, all << 1, ~(uint64_t)0};
     uint64_t ranks[] = {0, count - 1, count, count + 1, (uint64_t)1 << 63, ~(uint64_t)0};
-    struct numbers parts[] = {{PARTS, PART}, {1, 0}, {8, 7}, {0, 0}, {8, 8}, {65535, 65534}, {65536, 0}, {~(uint64_t)0, 5}};
+    struct numbers parts[] = {{PARTS, PART}, {1, 0}, {8, 4}, {0, 0}, {8, 8}, {65535, 65534}, {65536, 0}, {~(uint64_t)0, 5}};
     if (op == PART_WRITE) {
         uint64_t k = 1 + r % (i % 2 ? 65535 : 9);
         return i < 8 ? parts[i] : (struct numbers){k, next_random(&p->seed) % k};

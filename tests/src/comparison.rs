@@ -75,6 +75,7 @@ impl Comparison {
             );
         }
         self.tally.note(call, &expected.refusals);
+        self.tally.empty_between += u64::from(expected.empty_between);
         found
     }
 

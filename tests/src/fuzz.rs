@@ -25,7 +25,7 @@ const PRINTED: u64 = 5;
 /// What a run has met.
 pub struct Report {
     seed: u64,
-    tally: Tally,
+    pub tally: Tally,
     accepted: u64,
     /// Of these the ones that were raw bytes.
     raw_accepted: u64,
@@ -38,11 +38,12 @@ impl fmt::Display for Report {
         writeln!(f, "{}", self.tally.lines())?;
         write!(
             f,
-            "seed {}: {}\naccepted tables: {}, of them raw bytes: {}\n{:.1} s, {} differences",
+            "seed {}: {}\naccepted tables: {}, of them raw bytes: {}\nempty parts between others: {}\n{:.1} s, {} differences",
             self.seed,
             self.tally.summary(),
             self.accepted,
             self.raw_accepted,
+            self.tally.empty_between,
             self.time.as_secs_f64(),
             self.differences
         )
@@ -142,6 +143,7 @@ impl Fuzz {
         let first = expected.refusals.first();
         self.tally
             .note(call, first.map_or(&[], std::slice::from_ref));
+        self.tally.empty_between += u64::from(expected.empty_between);
         if first.is_none_or(|refusal| refusal.number > 10) {
             self.accepted += 1;
             self.raw_accepted += u64::from(is_raw);

@@ -16,6 +16,8 @@ pub struct Expected {
     pub outcome: Outcome,
     /// The bytes of the sheet that may be anything afterwards; `outcome` has them as before.
     pub loose: Range<usize>,
+    /// Whether an empty part is written, with setups before it and behind it.
+    pub empty_between: bool,
 }
 
 pub fn expect(call: Call, table: &[u8], sheet: &[u8], out: &[u8]) -> Expected {
@@ -36,6 +38,10 @@ pub fn expect(call: Call, table: &[u8], sheet: &[u8], out: &[u8]) -> Expected {
     let loose = settled
         .as_ref()
         .map_or(0..0, |settled| settled.leave_sheet(call, first, &mut sheet));
+    let empty_between = first.is_none()
+        && settled
+            .as_ref()
+            .is_some_and(|settled| settled.has_empty_between(call));
     let answer = match (first, part, call) {
         (Some(refusal), ..) => Answer::refused(refusal),
         (None, Some(part), _) => Answer::result(put_words(&mut out, &part)),
@@ -50,6 +56,7 @@ pub fn expect(call: Call, table: &[u8], sheet: &[u8], out: &[u8]) -> Expected {
         refusals,
         outcome,
         loose,
+        empty_between,
     }
 }
 
@@ -154,12 +161,11 @@ fn list_refusals(ranks: List, settled: Option<&Settled>, out_len: usize) -> Vec<
     holding.collect()
 }
 
-/// Start and size of part j of k, of `total` setups: a start is the running sum of the sizes.
+/// Start and size of part j of k, of `total` setups: it starts at j × C / k, rounded down, and ends
+/// before the start of part j + 1.
 pub fn span(total: u128, k: u64, j: u64) -> (u128, u128) {
-    let least = total / u128::from(k);
-    let rest = total % u128::from(k);
-    let size = |index: u64| least + u128::from(u128::from(index) < rest);
-    ((0..j).map(size).sum(), size(j))
+    let start = |index: u64| u128::from(index) * total / u128::from(k);
+    (start(j), start(j + 1) - start(j))
 }
 
 /// A table of which it is settled which setups are permitted, with its places.
@@ -205,6 +211,15 @@ impl Settled {
             }
             _ => None,
         }
+    }
+
+    /// Whether the part that a call writes is empty, with setups before it and behind it.
+    fn has_empty_between(&self, call: Call) -> bool {
+        let Call::PartWrite { k, j } = call else {
+            return false;
+        };
+        let (start, size) = span(self.total(), k, j);
+        size == 0 && (1..self.total()).contains(&start)
     }
 
     /// Changes the sheet as the call does, if `first` is the refusal returned. Gives back which

@@ -92,6 +92,8 @@ pub struct Tally {
     same_record: BTreeSet<Pair>,
     /// The second at a later record.
     later_record: BTreeSet<Pair>,
+    /// Empty parts written, with setups before them and behind them.
+    pub empty_between: u64,
 }
 
 impl Tally {

@@ -23,6 +23,7 @@ fn parts_are_the_whole() {
     for refusal in [10, 11, 15] {
         assert!(comparison.tally.answered("part-write", refusal) >= 300);
     }
+    assert!(comparison.tally.empty_between >= 100);
 }
 
 /// A table and its parts, as they were written.

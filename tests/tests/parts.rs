@@ -26,6 +26,7 @@ fn parts_agree_with_the_paper() {
     assert!(comparison.tally.cases >= 60_000);
     assert!(comparison.tally.answered("part-write", 11) >= 4_000);
     assert!(comparison.tally.answered("part-write", 16) >= 20);
+    assert!(comparison.tally.empty_between >= 1_000);
 }
 
 /// Compares all parts of k with the tables made from their own truth tables.
@@ -34,7 +35,7 @@ fn compare_function(comparison: &mut Comparison, function: &TruthTable, k: u64) 
     let total = function.iter().filter(|permitted| **permitted).count() as u64;
     let mut start = 0;
     for j in 0..k {
-        let end = start + (total + k - 1 - j) / k;
+        let end = (j + 1) * total / k;
         let kept = tables::with_ranks(function, start..end);
         let part = comparison.written_part(&table, k, j);
         assert_eq!(part, bytes_of(&tables::from_truth_table(&kept)));

@@ -49,7 +49,7 @@ fn compare_list(comparison: &mut Comparison, function: &TruthTable) -> Vec<u8> {
 }
 
 /// Compares all parts of k: each starts where the one before ends, the last ends at C, and the
-/// sizes fall by at most 1.
+/// sizes differ by at most 1.
 fn compare_parts(comparison: &mut Comparison, table: &[u8], k: u64) {
     let total = comparison.compare_served(Call::Count, table).value();
     let mut end = 0;
@@ -64,8 +64,7 @@ fn compare_parts(comparison: &mut Comparison, table: &[u8], k: u64) {
         sizes.push(size);
     }
     assert_eq!(end, total);
-    assert!(sizes.is_sorted_by(|before, size| before >= size));
-    assert!(sizes[0] - sizes[sizes.len() - 1] <= 1);
+    assert!(sizes.iter().all(|&size| size - total / k <= 1));
 }
 
 fn all_small_functions(comparison: &mut Comparison) {

@@ -1,6 +1,5 @@
 //! The reference itself: counts, ranks and setups against a brute-force reader of all setups, the
-//! tables of parts against those made from truth tables, and the running sums of the parts against
-//! their closed form.
+//! tables of parts against those made from truth tables, and starts and sizes against adding up.
 
 use setupbook_tests::comparison::report;
 use setupbook_tests::layout::bytes_of;
@@ -105,26 +104,33 @@ fn parts_are_those_of_truth_tables() {
     }
 }
 
-/// The start without a running sum: j parts of q, and one more for each of the first e.
-fn closed_start(total: u128, k: u64, j: u64) -> u128 {
-    let (k, j) = (u128::from(k), u128::from(j));
-    j * (total / k) + j.min(total % k)
+/// The sizes of k parts by adding up: each part has C / k setups, and adds C % k to what is saved;
+/// as soon as k are saved, they are spent on one setup more.
+fn sizes_by_adding(total: u128, k: u64) -> Vec<u128> {
+    let k = u128::from(k);
+    let mut saved = 0;
+    let size = |_| {
+        saved += total % k;
+        let more = u128::from(saved >= k);
+        saved -= k * more;
+        total / k + more
+    };
+    (0..k).map(size).collect()
 }
 
 #[test]
-fn sizes_add_up_to_the_closed_form() {
+fn spans_are_those_of_adding_up() {
     let mut rng = Rng::new(Rng::seed_of_run());
     let mut totals: Vec<u64> = vec![0, 1, 2, 6, 255, 256, 65_535, 65_536, (1 << 63) - 1, 1 << 63];
     totals.extend((0..10).map(|_| rng.below(1 << 63)));
     for total in totals.into_iter().map(u128::from) {
         for k in (1..=200).chain([1_000, 65_534, 65_535]) {
-            let (start, size) = paper::span(total, k, k - 1);
-            assert_eq!(start + size, total, "{k} parts of {total}");
-            for j in [0, 1, k / 2, k - 1, rng.below(k)] {
-                let (start, size) = paper::span(total, k, j);
-                assert_eq!(start, closed_start(total, k, j), "part {j} of {k}");
-                assert_eq!(start + size, closed_start(total, k, j + 1));
+            let mut end = 0;
+            for (j, size) in (0..k).zip(sizes_by_adding(total, k)) {
+                assert_eq!(paper::span(total, k, j), (end, size), "part {j} of {k}");
+                end += size;
             }
+            assert_eq!(end, total, "{k} parts of {total}");
         }
     }
 }

@@ -194,7 +194,7 @@ fn lists() {
 #[test]
 fn parts() {
     let mut sampler = Sampler::new();
-    let sizes_of_a: [&[u64]; 3] = [&[3, 3], &[2, 2, 1, 1], &[1, 1, 1, 1, 1, 1, 0, 0]];
+    let sizes_of_a: [&[u64]; 3] = [&[3, 3], &[1, 2, 1, 2], &[0, 1, 1, 1, 0, 1, 1, 1]];
     for sizes in sizes_of_a {
         let k = sizes.len() as u64;
         let mut start = 0;
@@ -207,8 +207,8 @@ fn parts() {
         }
     }
     for (k, j, start, size) in [
-        (65_535, 0, Answer::result(0), Answer::result(1)),
-        (65_535, 65_534, Answer::result(6), Answer::result(0)),
+        (65_535, 0, Answer::result(0), Answer::result(0)),
+        (65_535, 65_534, Answer::result(5), Answer::result(1)),
         (65_535, 65_535, refused(15, 0), refused(15, 0)),
         (65_536, 0, refused(15, 0), refused(15, 0)),
     ] {
@@ -236,7 +236,7 @@ fn written_parts() {
         assert_eq!(outcome.answer, refused(11, 0));
     }
     assert_eq!(words_of(front(&write(1, 0, 32))), A);
-    for (k, j) in [(8, 6), (8, 7), (65_535, 65_534)] {
+    for (k, j) in [(8, 0), (8, 4), (65_535, 65_533)] {
         assert_eq!(words_of(front(&write(k, j, 8))), [0x0C00000000000001]);
         assert_eq!(write(k, j, 7).answer, refused(11, 0));
     }

@@ -1,18 +1,17 @@
 -- Rule 15 and the span of a part, in the terms of the code. Assumes nothing.
-use Prim.Native.Nat.{ℕ, _+_, _-_, _*_, _/_, _^_, _≤_, _<_}
-use mathlib.Core.Path.{_≡_, sym, _∙_}
+use Prim.Native.Nat.{ℕ, _+_, _-_, _*_, _/_, _%_, _^_, _≤_, _<_}
+use mathlib.Core.Path.{_≡_, sym, ap, _∙_}
 use mathlib.Core.Bool.{Bool, true, false, _||_}
 use native.Mathlib.Omega.{arith}
-use native.Mathlib.Nat.{mul-div-le}
+use native.Mathlib.Nat.{div-add-mod, mul-add-div, mod-lt, mul-le-mul}
 use lib.Dec.{eqb, ltb, leb}
-use borrow.Author.Tests.{eqb-false, leb-false, lt-ltb, le-ltb, eq-eqb, ne-eqb}
+use borrow.Author.Tests.{eqb-false, ltb-false, leb-false, lt-ltb, le-ltb, eq-eqb, ne-eqb}
 use Rattle.words.proofs.Cases.{or-false}
-use Rattle.diagram.specs.Count.{indicator, countBelow}
+use Rattle.diagram.specs.Count.{countBelow}
 use Rattle.diagram.specs.Answer.{Answer, value, refusal}
 use Rattle.division.specs.Span.{size, start}
 use Rattle.division.specs.Operations.{noPart, spanOf}
-use Rattle.division.proofs.SpanLaws.{start-closed}
-use Rattle.division.proofs.Parts.{part-inside}
+use Rattle.division.proofs.SpanLaws.{start-end, start-mono}
 
 -- rule 15, test by test
 module _ (k j : ℕ) where
@@ -28,65 +27,46 @@ module _ (k j : ℕ) where
   unfolding noPart
   none-index n l = rw (ne-eqb k 0 n, le-ltb 65535 k l)
 
+-- the start of part j of k, or the end of the last, where j is k: by c = k × (c / k) + c % k
+module _ (k j c : ℕ) (ok : (0 < k) × (k ≤ 65535) × (j ≤ k)) where
+  pub start-split : j * (c / k) + j * (c % k) / k ≡ start c k j
+  unfolding start
+  start-split =
+      let e : k * (j * (c / k)) + j * (c % k) ≡ j * c = omega (arith, ap (λ x. j * x) (div-add-mod c k)) in
+      sym (mul-add-div (ok .0) (j * (c / k)) (j * (c % k))) ∙ ap (λ x. x / k) e
+
+  -- it is not past c, and neither is a term of it
+  pub split-fits : j * (c / k) + j * (c % k) / k ≤ c
+  split-fits = omega (arith, start-split, start-mono c k j k (ok .2), start-end c k (ok .0))
+
+  -- its other product is small
+  pub rest-fits : j * (c % k) < 2 ^ 32
+  rest-fits = omega (arith, mul-le-mul (ok .2) (mod-lt c (ok .0)), mul-le-mul (ok .1) (ok .1))
+
 module _ (k j c : ℕ) (b : Bool) (b-is : b ≡ noPart k j) where
   pub no-such : b ≡ true → refusal 15 0 ≡ spanOf k j c
   unfolding spanOf
   no-such q = rw (← b-is, q)
 
-  -- part j of k, with q = c / k
+  -- there is a part j of k
   module _ (passes : b ≡ false) where
-    some : (0 < k) × (j < k)
+    pub some-part : (0 < k) × (k ≤ 65535) × (j < k)
     unfolding noPart
-    some =
+    some-part =
         let e = sym b-is ∙ passes in
         let a = or-false (eqb k 0 || ltb 65535 k) (leb k j) e in
         let d = or-false (eqb k 0) (ltb 65535 k) (a .0) in
         let z : k ≡ 0 → ⊥ = eqb-false k 0 (d .0) in
-        (omega arith, leb-false k j (a .1))
+        (omega arith, ltb-false 65535 k (d .1), leb-false k j (a .1))
 
-    pub divisor : 0 < k
-    divisor = some .0
+    -- from its start s to the next one, t
+    module _ (s t : ℕ) (s-is : s ≡ start c k j) (t-is : t ≡ start c k (j + 1)) where
+      pub rises : s ≤ t
+      rises = omega (arith, start-mono c k j (j + 1) (omega arith))
 
-    pub whole-fits : k * (c / k) ≤ c
-    whole-fits = mul-div-le c k
-
-    -- no start and no end is past c
-    end-fits : start c k j + size c k j ≤ c
-    end-fits = part-inside c k j (some .1)
-
-    span-is : (s z : ℕ) → s ≡ start c k j → z ≡ size c k j → value (s, z) ≡ spanOf k j c
-    unfolding spanOf
-    span-is s z p q = rw (← b-is, passes, p, q)
-
-    -- one of the larger parts
-    module _ (l : j < c - k * (c / k)) where
-      larger-start : j * (c / k) + j ≡ start c k j
-      larger-start = omega (arith, start-closed c k j)
-
-      larger-size : c / k + 1 ≡ size c k j
-      unfolding size indicator
-      larger-size = rw (lt-ltb j (c - k * (c / k)) l)
-
-      pub larger-fits : (j * (c / k) + j ≤ c) × (c / k + 1 ≤ c)
-      larger-fits = (omega (arith, larger-start, end-fits), omega (arith, larger-size, end-fits))
-
-      pub larger : value (j * (c / k) + j, c / k + 1) ≡ spanOf k j c
-      larger = span-is (j * (c / k) + j) (c / k + 1) larger-start larger-size
-
-    -- one of the others
-    module _ (l : c - k * (c / k) ≤ j) where
-      other-start : j * (c / k) + (c - k * (c / k)) ≡ start c k j
-      other-start = omega (arith, start-closed c k j)
-
-      other-size : c / k ≡ size c k j
-      unfolding size indicator
-      other-size = rw (le-ltb j (c - k * (c / k)) l) (omega arith)
-
-      pub other-fits : j * (c / k) + (c - k * (c / k)) ≤ c
-      other-fits = omega (arith, other-start, end-fits)
-
-      pub other : value (j * (c / k) + (c - k * (c / k)), c / k) ≡ spanOf k j c
-      other = span-is (j * (c / k) + (c - k * (c / k))) (c / k) other-start other-size
+      pub span-is : value (s, t - s) ≡ spanOf k j c
+      unfolding spanOf size
+      span-is = rw (← b-is, passes, s-is, t-is)
 
 -- the span by n and the setups that are permitted
 abbrev pub spanBy : ℕ → ℕ → ℕ → (ℕ → Bool) → Answer (ℕ × ℕ)

@@ -1,57 +1,64 @@
 -- The parts share the setups out, in order. All above rests on start-zero, start-next, start-end and start-mono, and on sizes-even: nothing else is known of where parts start. Assumes nothing.
-use Prim.Native.Nat.{ℕ, zero, suc, _+_, _-_, _*_, _/_, _≤_, _<_, min}
-use mathlib.Core.Path.{_≡_, refl, _∙_}
-use mathlib.Core.Bool.{Bool, true, false}
+use Prim.Native.Nat.{ℕ, zero, suc, _+_, _*_, _/_, _≤_, _<_}
+use mathlib.Core.Path.{_≡_, ap}
 use native.Mathlib.Omega.{arith}
-use native.Mathlib.Nat.{zero-mul, zero-min, mul-div-le, lt-mul-div-succ}
-use lib.Dec.{ltb}
-use borrow.Author.Tests.{ltb-true, ltb-false}
-use Rattle.words.proofs.Cases.{less, same, more, tri}
-use Rattle.diagram.specs.Count.{indicator}
+use native.Mathlib.Numerals.{add-one}
+use native.Mathlib.Nat.{zero-mul, zero-div, div-zero, mul-div-le, lt-mul-div-succ, mul-div-cancel-left, mul-le-mul-right, lt-of-mul-lt-mul-left}
 use Rattle.division.specs.Span.{size, start}
+
+-- rounded down: k times the start is not above j × c
+start-low : (c k j : ℕ) → k * start c k j ≤ j * c
+unfolding start
+start-low c k j = mul-div-le (j * c) k
+
+-- ... and k times one more is
+start-high : (c k j : ℕ) → 0 < k → j * c < k * (start c k j + 1)
+unfolding start
+start-high c k j p = lt-mul-div-succ (j * c) p
 
 -- the first part starts at 0
 pub start-zero : (c k : ℕ) → start c k 0 ≡ 0
 unfolding start
-start-zero c k = refl
-
--- a part starts where the one before it ends
-pub start-next : (c k j : ℕ) → start c k (suc j) ≡ start c k j + size c k j
-unfolding start
-start-next c k j = refl
-
--- the sizes differ by at most one
-pub sizes-even : (c k i j : ℕ) → size c k i ≤ size c k j + 1
-unfolding size indicator
-sizes-even c k i j = go (ltb i (c - k * (c / k))) (ltb j (c - k * (c / k)))
-  where
-    go : (a b : Bool) → c / k + indicator a ≤ c / k + indicator b + 1
-    go true true = omega arith
-    go true false = omega arith
-    go false true = omega arith
-    go false false = omega arith
-
--- where part j starts, without the sum: for the code only
-pub start-closed : (c k j : ℕ) → start c k j ≡ j * (c / k) + min j (c - k * (c / k))
-unfolding start size indicator
-start-closed c k zero = simp (zero-mul, zero-min)
-start-closed c k (suc j) = go (ltb j (c - k * (c / k))) refl (start-closed c k j)
-  where
-    go : (b : Bool) → ltb j (c - k * (c / k)) ≡ b → start c k j ≡ j * (c / k) + min j (c - k * (c / k))
-        → start c k j + (c / k + indicator b) ≡ suc j * (c / k) + min (suc j) (c - k * (c / k))
-    go true p q = let l = ltb-true j (c - k * (c / k)) p in omega arith
-    go false p q = let l = ltb-false j (c - k * (c / k)) p in omega arith
+start-zero c k = simp (zero-mul, zero-div)
 
 -- the last part ends where the setups end
 pub start-end : (c k : ℕ) → 0 < k → start c k k ≡ c
-start-end c k l =
-    let a : k * (c / k) ≤ c = mul-div-le c k in
-    let b : c < k * (c / k + 1) = lt-mul-div-succ c l in
-    start-closed c k k ∙ omega arith
+unfolding start
+start-end c k p = mul-div-cancel-left c p
+
+-- of no parts, all start at 0
+start-none : (c j : ℕ) → start c 0 j ≡ 0
+unfolding start
+start-none c j = div-zero (j * c)
 
 -- starts ascend
 pub start-mono : (c k i j : ℕ) → i ≤ j → start c k i ≤ start c k j
-unfolding start
-start-mono c k i zero l = let e : i ≡ 0 = omega arith in rw e (omega arith)
-start-mono c k i (suc j) l =
-    elim (tri i (suc j)) [ less q ↦ omega (arith, start-mono c k i j (omega arith)) | same q ↦ rw q (omega arith) | more q ↦ absurd (omega arith) ]
+start-mono c zero i j l = omega (arith, start-none c i)
+start-mono c (suc m) i j l =
+    let k = suc m in
+    let p : 0 < k = omega arith in
+    let h : start c k i < start c k j + 1 = lt-of-mul-lt-mul-left k (omega (arith, start-low c k i, mul-le-mul-right c l, start-high c k j p)) in
+    omega arith
+
+-- a part starts where the one before it ends
+pub start-next : (c k j : ℕ) → start c k (suc j) ≡ start c k j + size c k j
+unfolding size
+start-next c k j = omega (arith, ap (start c k) (add-one j), start-mono c k j (suc j) (omega arith))
+
+-- a size is c / k, rounded up or down
+module _ (c k j : ℕ) (p : 0 < k) where
+  size-low : c < k * (size c k j + 1)
+  size-low = omega (arith, start-low c k j, rw start-next at (start-high c k (suc j) p))
+
+  size-high : k * size c k j < c + k
+  size-high = omega (arith, start-high c k j p, rw start-next at (start-low c k (suc j)))
+
+-- the sizes differ by at most one
+pub sizes-even : (c k i j : ℕ) → size c k i ≤ size c k j + 1
+unfolding size
+sizes-even c zero i j = omega (arith, start-none c (i + 1))
+sizes-even c (suc m) i j =
+    let k = suc m in
+    let p : 0 < k = omega arith in
+    let h : size c k i < size c k j + 2 = lt-of-mul-lt-mul-left k (omega (arith, size-high c k i p, size-low c k j p)) in
+    omega arith

@@ -1,17 +1,16 @@
--- Sharing out c setups, in their order, among k parts (blocks of consecutive ranks): the first c - k × (c / k) parts have one more than the others. Assumes nothing.
-use Prim.Native.Nat.{ℕ, zero, suc, _+_, _-_, _*_, _/_, _^_}
+-- Sharing out c setups, in their order, among k parts (blocks of consecutive ranks), the leftover ones spread evenly. Assumes nothing.
+use Prim.Native.Nat.{ℕ, _+_, _-_, _*_, _/_, _^_}
 use mathlib.Core.Bool.{Bool, _&&_}
 use lib.Dec.{leb, ltb}
-use Rattle.diagram.specs.Count.{indicator, countBelow}
+use Rattle.diagram.specs.Count.{countBelow}
 
--- how many setups part j has
-unfoldable pub size : ℕ → ℕ → ℕ → ℕ
-size c k j = c / k + indicator (ltb j (c - k * (c / k)))
-
--- the rank of its first: the sizes of the parts before it, added up
+-- the rank at which part j starts: j × c / k, rounded down
 unfoldable pub start : ℕ → ℕ → ℕ → ℕ
-start c k zero = 0
-start c k (suc j) = start c k j + size c k j
+start c k j = j * c / k
+
+-- how many setups it has: it ends before the start of part j + 1
+unfoldable pub size : ℕ → ℕ → ℕ → ℕ
+size c k j = start c k (j + 1) - start c k j
 
 -- setup x is one of the z setups that P permits from rank b on
 unfoldable pub within : (ℕ → Bool) → ℕ → ℕ → ℕ → Bool

@@ -1,9 +1,10 @@
 // Divisions of a table into parts: where a part starts in the numbering, and how many setups it has.
 ghost use mathlib.Core.Path.{_≡_};
+ghost use Prim.Native.Nat.{_≤_, _<_};
 ghost use Rattle.checking.specs.Operations.{sheetAfter};
 ghost use Rattle.division.specs.Answers.{spannedAs};
 ghost use Rattle.division.specs.Operations.{noPart, spanOf, spanning};
-ghost use Rattle.division.specs.Span.{start, size};
+ghost use Rattle.division.specs.Span.{start};
 use checking::Checked;
 use diagram::Rank;
 use rules::Refusal;
@@ -32,24 +33,29 @@ fn no_part(k: u64, j: u64) -> bool
     k <= j
 }
 
-// Rule 15, and part j of k, of c setups.
+// Where part j of k starts, of c setups: j × c / k, rounded down. The product may not fit 64 bits; with c = k × q + e the
+// start is j × q + j × e / k, of which neither product is above c or 2^32.
+fn start_of(k: u64, j: u64, c: u64) -> u64
+    requires { ⌜ (0 < k) × (k ≤ 65535) × (j ≤ k) ⌝ }
+    ensures { λ r. ⌜ r ≡ start c k j ⌝ }
+{
+    let q = c / k;
+    let e = c % k;
+    j * q + j * e / k
+}
+
+// Rule 15, and part j of k, of c setups: it ends where part j + 1 would start.
 pub fn span_of(k: u64, j: u64, c: u64) -> Spanned
     ensures { λ r. ⌜ spannedAs r ≡ spanOf k j c ⌝ }
 {
     if no_part(k, j) {
         return Spanned::Refused(Refusal::PartRange);
     }
-    let q = c / k;
-    let extra = c - k * q;
-    if j < extra {
-        return Spanned::Part(Extent {
-            start: Rank(j * q + j),
-            size: q + 1,
-        });
-    }
+    let start = start_of(k, j, c);
+    let end = start_of(k, j + 1, c);
     Spanned::Part(Extent {
-        start: Rank(j * q + extra),
-        size: q,
+        start: Rank(start),
+        size: end - start,
     })
 }
 

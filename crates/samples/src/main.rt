@@ -351,7 +351,8 @@ fn divisions() {
     sizes(65536, 1);
     part_of(2, 0);
     part_of(2, 1);
-    part_of(65535, 5);
+    part_of(8, 4);
+    part_of(65535, 0);
     part_of(65535, 65534);
     part_of(65536, 0);
 }

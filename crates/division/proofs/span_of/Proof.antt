@@ -1,44 +1,30 @@
--- `division::span_of` meets its contract. Assumes nothing.
+-- `division::span_of` meets its contract: rule 15, then two starts. Assumes nothing.
 use native.Mathlib.Omega.{arith}
 use borrow.Author.Needs.{needs}
-use Rattle.division.proofs.Sharing.{no-such, divisor, whole-fits, larger-fits, larger, other-fits, other}
+use Rattle.division.proofs.Sharing.{no-such, some-part, rises, span-is}
 use Rattle.division.proofs.span_of.Statement.{statement}
 use Rattle.division.proofs.span_of.Tie as tie
 
 returns : tie.Need-returns
 returns c = no-such _ _ _ _ (c .before .no-part .ensures) (c .if1 .taken)
 
-div-q : tie.Need-div-q
-div-q c = divisor _ _ 0 _ (c .before .no-part .ensures) (c .if1 .left)
+start-of-requires : tie.Need-start-of-requires
+start-of-requires c κs = let p = some-part _ _ 0 _ (c .before .no-part .ensures) (c .if1 .left) in omega arith
 
-mul-extra : tie.Need-mul-extra
-mul-extra c = let f = whole-fits _ _ (c .before .before .args .c) _ (c .before .no-part .ensures) (c .if1 .left) in record { fits = omega (arith, f) }
+add-start-of : tie.Need-add-start-of
+add-start-of c = let a = c .before in let p = some-part _ _ 0 _ (a .before .no-part .ensures) (a .if1 .left) in record { fits = omega arith }
 
-sub-extra : tie.Need-sub-extra
-sub-extra c = whole-fits _ _ _ _ (c .before .no-part .ensures) (c .if1 .left)
+start-of-requires-2 : tie.Need-start-of-requires-2
+start-of-requires-2 c κs = let a = c .before in let p = some-part _ _ 0 _ (a .before .no-part .ensures) (a .if1 .left) in omega arith
 
-mul-t10 : tie.Need-mul-t10
-mul-t10 c = let f = larger-fits _ _ _ _ (c .before .before .no-part .ensures) (c .before .if1 .left) (c .if2 .taken) in record { fits = omega (arith, f .0) }
-
-add-t11 : tie.Need-add-t11
-add-t11 c = let f = larger-fits _ _ _ _ (c .before .before .no-part .ensures) (c .before .if1 .left) (c .if2 .taken) in record { fits = omega (arith, f .0) }
-
-add-t13 : tie.Need-add-t13
-add-t13 c = let f = larger-fits _ _ _ _ (c .before .before .no-part .ensures) (c .before .if1 .left) (c .if2 .taken) in record { fits = omega (arith, f .1) }
+sub-t8 : tie.Need-sub-t8
+sub-t8 c =
+    let a = c .before .before in
+    let l = rises _ _ _ _ (a .before .no-part .ensures) (a .if1 .left) _ _ (c .before .start-of .ensures) (c .start-of2 .ensures) in
+    omega arith
 
 returns-2 : tie.Need-returns-2
-returns-2 c = larger _ _ _ _ (c .before .before .no-part .ensures) (c .before .if1 .left) (c .if2 .taken)
-
-mul-t8 : tie.Need-mul-t8
-mul-t8 c = let f = other-fits _ _ _ _ (c .before .before .no-part .ensures) (c .before .if1 .left) (c .if2 .left) in record { fits = omega (arith, f) }
-
-add-t15 : tie.Need-add-t15
-add-t15 c = let f = other-fits _ _ _ _ (c .before .before .no-part .ensures) (c .before .if1 .left) (c .if2 .left) in record { fits = omega (arith, f) }
-
-returns-3 : tie.Need-returns-3
-returns-3 c = other _ _ _ _ (c .before .before .no-part .ensures) (c .before .if1 .left) (c .if2 .left)
+returns-2 c = let a = c .before .before in span-is _ _ _ _ (a .before .no-part .ensures) (a .if1 .left) _ _ (c .before .start-of .ensures) (c .start-of2 .ensures)
 
 pub span-of-spec : {M : Type 1} → statement M
-span-of-spec =
-    tie.close
-    (tie.spec (λ c κs. search needs) returns div-q mul-extra sub-extra mul-t10 add-t11 add-t13 returns-2 mul-t8 add-t15 returns-3)
+span-of-spec = tie.close (tie.spec (λ c κs. search needs) returns start-of-requires add-start-of start-of-requires-2 sub-t8 returns-2)
