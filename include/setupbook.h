@@ -8,10 +8,10 @@
  * has weight 2^(n-1), so that the lexicographic order of setups is the order of numbers. The rank
  * of a permitted setup is how many permitted setups are smaller: 0 to C - 1.
  *
- * A division into k parts gives consecutive ranks to part 0, part 1, ... part k - 1: C / k to each,
- * rounded down, and one more to each of the first C % k. A part is a table over the same settings
- * that permits these setups only, with the fewest nodes that such a table can have, N' (none if the
- * part is empty).
+ * A division into k parts gives consecutive ranks to part 0, part 1, ... part k - 1: part j starts
+ * at rank j * C / k, rounded down (of whole numbers: the product may pass 2^64), and ends before the
+ * start of part j + 1. A part is a table over the same settings that permits these setups only,
+ * with the fewest nodes that such a table can have, N' (none if the part is empty).
  *
  * A list is a row of numbers of 8 bytes, most significant byte first; up to seven spare bytes at
  * its end are ignored.

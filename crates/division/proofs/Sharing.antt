@@ -39,9 +39,13 @@ module _ (k j c : ℕ) (ok : (0 < k) × (k ≤ 65535) × (j ≤ k)) where
   pub split-fits : j * (c / k) + j * (c % k) / k ≤ c
   split-fits = omega (arith, start-split, start-mono c k j k (ok .2), start-end c k (ok .0))
 
-  -- its other product is small
-  pub rest-fits : j * (c % k) < 2 ^ 32
-  rest-fits = omega (arith, mul-le-mul (ok .2) (mod-lt c (ok .0)), mul-le-mul (ok .1) (ok .1))
+  -- its remainder is below k
+  pub rest-small : c % k ≤ 65535
+  rest-small = omega (arith, mod-lt c (ok .0))
+
+-- a product of two numbers of 16 bits, as that of j and the remainder, fits 64
+pub small-fits : (x y : ℕ) → x ≤ 65535 → y ≤ 65535 → x * y < 2 ^ 64
+small-fits x y p q = omega (arith, mul-le-mul p q)
 
 module _ (k j c : ℕ) (b : Bool) (b-is : b ≡ noPart k j) where
   pub no-such : b ≡ true → refusal 15 0 ≡ spanOf k j c

@@ -1,5 +1,5 @@
--- The parts share the setups out, in order. All above rests on start-zero, start-next, start-end and start-mono, and on sizes-even: nothing else is known of where parts start. Assumes nothing.
-use Prim.Native.Nat.{ℕ, zero, suc, _+_, _*_, _/_, _≤_, _<_}
+-- The parts share the setups out, in order and evenly. All above rests on start-zero, start-next, start-end and start-mono, and on sizes-even: nothing else is known of where parts start. Assumes nothing.
+use Prim.Native.Nat.{ℕ, zero, suc, _+_, _-_, _*_, _/_, _≤_, _<_}
 use mathlib.Core.Path.{_≡_, ap}
 use native.Mathlib.Omega.{arith}
 use native.Mathlib.Numerals.{add-one}
@@ -45,20 +45,18 @@ pub start-next : (c k j : ℕ) → start c k (suc j) ≡ start c k j + size c k 
 unfolding size
 start-next c k j = omega (arith, ap (start c k) (add-one j), start-mono c k j (suc j) (omega arith))
 
--- a size is c / k, rounded up or down
-module _ (c k j : ℕ) (p : 0 < k) where
-  size-low : c < k * (size c k j + 1)
-  size-low = omega (arith, start-low c k j, rw start-next at (start-high c k (suc j) p))
+-- the leftover setups are spread evenly: m parts in a row have as many setups from part i on as from part j on, but for one
+pub runs-even : (c k m i j : ℕ) → start c k (i + m) - start c k i ≤ start c k (j + m) - start c k j + 1
+runs-even c zero m i j = omega (arith, start-none c (i + m))
+runs-even c (suc l) m i j =
+    let k = suc l in
+    let p : 0 < k = omega arith in
+    let high-i = start-high c k i p in
+    let high-j = start-high c k (j + m) p in
+    let h : start c k (i + m) + start c k j < start c k i + start c k (j + m) + 2 = lt-of-mul-lt-mul-left k (omega (arith, start-low c k (i + m), start-low c k j)) in
+    omega (arith, start-mono c k j (j + m) (omega arith))
 
-  size-high : k * size c k j < c + k
-  size-high = omega (arith, start-high c k j p, rw start-next at (start-low c k (suc j)))
-
--- the sizes differ by at most one
+-- so the sizes differ by at most one
 pub sizes-even : (c k i j : ℕ) → size c k i ≤ size c k j + 1
 unfolding size
-sizes-even c zero i j = omega (arith, start-none c (i + 1))
-sizes-even c (suc m) i j =
-    let k = suc m in
-    let p : 0 < k = omega arith in
-    let h : size c k i < size c k j + 2 = lt-of-mul-lt-mul-left k (omega (arith, size-high c k i p, size-low c k j p)) in
-    omega arith
+sizes-even c k i j = runs-even c k 1 i j

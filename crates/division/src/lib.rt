@@ -9,7 +9,7 @@ use checking::Checked;
 use diagram::Rank;
 use rules::Refusal;
 
-// A part: the rank at which it starts (C, where it is empty and comes last), and how many setups it has.
+// A part: the rank at which it starts (that of the next part, where it is empty), and how many setups it has.
 pub struct Extent {
     pub start: Rank,
     pub size: u64,

@@ -1,7 +1,7 @@
 -- `division::start_of` meets its contract: the start by quotient and remainder. Assumes nothing.
 use native.Mathlib.Omega.{arith}
 use borrow.Author.Needs.{needs}
-use Rattle.division.proofs.Sharing.{start-split, split-fits, rest-fits}
+use Rattle.division.proofs.Sharing.{start-split, split-fits, rest-small, small-fits}
 use Rattle.division.proofs.start_of.Statement.{statement}
 use Rattle.division.proofs.start_of.Tie as tie
 
@@ -9,7 +9,7 @@ mul-result : tie.Need-mul-result
 mul-result c = let f = split-fits _ _ (c .args .c) (c .pre) in record { fits = omega (arith, f) }
 
 mul-result-2 : tie.Need-mul-result-2
-mul-result-2 c = let f = rest-fits _ _ (c .args .c) (c .pre) in record { fits = omega (arith, f) }
+mul-result-2 c = let r = rest-small _ _ (c .args .c) (c .pre) in record { fits = small-fits _ _ (omega arith) (omega arith) }
 
 add-result : tie.Need-add-result
 add-result c = let f = split-fits _ _ (c .args .c) (c .pre) in record { fits = omega (arith, f) }
