@@ -27,6 +27,15 @@ module _ (k j : ℕ) where
   unfolding noPart
   none-index n l = rw (ne-eqb k 0 n, le-ltb 65535 k l)
 
+  -- where it does not hold
+  pub some-part : (b : Bool) → b ≡ noPart k j → b ≡ false → (0 < k) × (k ≤ 65535) × (j < k)
+  unfolding noPart
+  some-part b b-is passes =
+      let a = or-false (eqb k 0 || ltb 65535 k) (leb k j) (sym b-is ∙ passes) in
+      let d = or-false (eqb k 0) (ltb 65535 k) (a .0) in
+      let z : k ≡ 0 → ⊥ = eqb-false k 0 (d .0) in
+      (omega arith, ltb-false 65535 k (d .1), leb-false k j (a .1))
+
 -- the start of part j of k, or the end of the last, where j is k: by c = k × (c / k) + c % k
 module _ (k j c : ℕ) (ok : (0 < k) × (k ≤ 65535) × (j ≤ k)) where
   pub start-split : j * (c / k) + j * (c % k) / k ≡ start c k j
@@ -47,30 +56,19 @@ module _ (k j c : ℕ) (ok : (0 < k) × (k ≤ 65535) × (j ≤ k)) where
 pub small-fits : (x y : ℕ) → x ≤ 65535 → y ≤ 65535 → x * y < 2 ^ 64
 small-fits x y p q = omega (arith, mul-le-mul p q)
 
-module _ (k j c : ℕ) (b : Bool) (b-is : b ≡ noPart k j) where
-  pub no-such : b ≡ true → refusal 15 0 ≡ spanOf k j c
-  unfolding spanOf
-  no-such q = rw (← b-is, q)
+-- part j from its start s to the next one, t
+module _ (c k j s t : ℕ) (s-is : s ≡ start c k j) (t-is : t ≡ start c k (j + 1)) where
+  pub rises : s ≤ t
+  rises = omega (arith, start-mono c k j (j + 1) (omega arith))
 
-  -- there is a part j of k
-  module _ (passes : b ≡ false) where
-    pub some-part : (0 < k) × (k ≤ 65535) × (j < k)
-    unfolding noPart
-    some-part =
-        let e = sym b-is ∙ passes in
-        let a = or-false (eqb k 0 || ltb 65535 k) (leb k j) e in
-        let d = or-false (eqb k 0) (ltb 65535 k) (a .0) in
-        let z : k ≡ 0 → ⊥ = eqb-false k 0 (d .0) in
-        (omega arith, ltb-false 65535 k (d .1), leb-false k j (a .1))
+  pub span-is : (b : Bool) → b ≡ noPart k j → b ≡ false → value (s, t - s) ≡ spanOf k j c
+  unfolding spanOf size
+  span-is b b-is passes = rw (← b-is, passes, s-is, t-is)
 
-    -- from its start s to the next one, t
-    module _ (s t : ℕ) (s-is : s ≡ start c k j) (t-is : t ≡ start c k (j + 1)) where
-      pub rises : s ≤ t
-      rises = omega (arith, start-mono c k j (j + 1) (omega arith))
-
-      pub span-is : value (s, t - s) ≡ spanOf k j c
-      unfolding spanOf size
-      span-is = rw (← b-is, passes, s-is, t-is)
+-- there is no part j
+pub no-such : (k j c : ℕ) (b : Bool) → b ≡ noPart k j → b ≡ true → refusal 15 0 ≡ spanOf k j c
+unfolding spanOf
+no-such k j c b b-is holds = rw (← b-is, holds)
 
 -- the span by n and the setups that are permitted
 abbrev pub spanBy : ℕ → ℕ → ℕ → (ℕ → Bool) → Answer (ℕ × ℕ)

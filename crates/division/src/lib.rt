@@ -33,8 +33,8 @@ fn no_part(k: u64, j: u64) -> bool
     k <= j
 }
 
-// Where part j of k starts, of c setups: j × c / k, rounded down. The product may not fit 64 bits; with c = k × q + e the
-// start is j × q + j × e / k, of which neither product is above c or 2^32.
+// Where part j of k starts, of c setups: j × c / k, rounded down. That product may not fit 64 bits. With c = k × q + e the
+// start is j × q + j × e / k: the first product is at most c, the other below 2^32.
 fn start_of(k: u64, j: u64, c: u64) -> u64
     requires { ⌜ (0 < k) × (k ≤ 65535) × (j ≤ k) ⌝ }
     ensures { λ r. ⌜ r ≡ start c k j ⌝ }
