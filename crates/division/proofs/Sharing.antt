@@ -27,7 +27,7 @@ module _ (k j : ℕ) where
   unfolding noPart
   none-index n l = rw (ne-eqb k 0 n, le-ltb 65535 k l)
 
-  -- where it does not hold
+  -- where it does not hold, there is a part j of k
   pub some-part : (b : Bool) → b ≡ noPart k j → b ≡ false → (0 < k) × (k ≤ 65535) × (j < k)
   unfolding noPart
   some-part b b-is passes =
@@ -35,6 +35,11 @@ module _ (k j : ℕ) where
       let d = or-false (eqb k 0) (ltb 65535 k) (a .0) in
       let z : k ≡ 0 → ⊥ = eqb-false k 0 (d .0) in
       (omega arith, ltb-false 65535 k (d .1), leb-false k j (a .1))
+
+-- where it holds, it is answered
+pub no-such : (k j c : ℕ) (b : Bool) → b ≡ noPart k j → b ≡ true → refusal 15 0 ≡ spanOf k j c
+unfolding spanOf
+no-such k j c b b-is holds = rw (← b-is, holds)
 
 -- the start of part j of k, or the end of the last, where j is k: by c = k × (c / k) + c % k
 module _ (k j c : ℕ) (ok : (0 < k) × (k ≤ 65535) × (j ≤ k)) where
@@ -64,11 +69,6 @@ module _ (c k j s t : ℕ) (s-is : s ≡ start c k j) (t-is : t ≡ start c k (j
   pub span-is : (b : Bool) → b ≡ noPart k j → b ≡ false → value (s, t - s) ≡ spanOf k j c
   unfolding spanOf size
   span-is b b-is passes = rw (← b-is, passes, s-is, t-is)
-
--- there is no part j
-pub no-such : (k j c : ℕ) (b : Bool) → b ≡ noPart k j → b ≡ true → refusal 15 0 ≡ spanOf k j c
-unfolding spanOf
-no-such k j c b b-is holds = rw (← b-is, holds)
 
 -- the span by n and the setups that are permitted
 abbrev pub spanBy : ℕ → ℕ → ℕ → (ℕ → Bool) → Answer (ℕ × ℕ)

@@ -1,5 +1,5 @@
 -- The parts share the setups out, in order and evenly. All above rests on start-zero, start-next, start-end and start-mono, and on sizes-even: nothing else is known of where parts start. Assumes nothing.
-use Prim.Native.Nat.{ℕ, zero, suc, _+_, _-_, _*_, _/_, _≤_, _<_}
+use Prim.Native.Nat.{ℕ, zero, suc, _+_, _-_, _*_, _≤_, _<_}
 use mathlib.Core.Path.{_≡_, ap}
 use native.Mathlib.Omega.{arith}
 use native.Mathlib.Numerals.{add-one}
