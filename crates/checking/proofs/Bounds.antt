@@ -13,7 +13,7 @@ use Rattle.diagram.specs.Meaning.{permitted}
 use Rattle.diagram.specs.Count.{total}
 use Rattle.diagram.specs.Answer.{value}
 use Rattle.diagram.proofs.Accept.{check-accepted}
-use Rattle.diagram.proofs.Refusals.{Refuses, passes, unless, then-refuses, check-place}
+use Rattle.diagram.proofs.Refusals.{Refuses, passes, unless, then-refuses, check-refuses}
 use Rattle.checking.specs.Operations.{checking, checkingFor, counting, testSetup, testing}
 
 abbrev pub Low : ℕ → ℕ → Type 0
@@ -21,19 +21,20 @@ Low number place = place ≤ 65535
 
 pub checking-place : (need : ℕ → ℕ) (t s : List ℕ) → Refuses Low (checkingFor need t s)
 unfolding checkingFor
-checking-place need t s = check-place t (length s / 8) need
+checking-place need t s r p e = check-refuses t (length s / 8) need r p e .0
 
 pub counting-place : (t s : List ℕ) → Refuses Low (counting t s)
 unfolding counting
 counting-place t s = then-refuses Low (checking t s) _ (checking-place _ t s) (λ _ _. passes Low (total (wordAt t)))
 
-pub test-place : (x n : ℕ) (P : ℕ → Bool) → Refuses Low (testSetup x n P)
+-- the test refuses by 12 only
+pub test-refuses : (Q : ℕ → ℕ → Type 0) → Q 12 0 → (x n : ℕ) (P : ℕ → Bool) → Refuses Q (testSetup x n P)
 unfolding testSetup
-test-place x n P = unless Low (leb (2 ^ n) x) 12 0 (omega arith) (passes Low (P x))
+test-refuses Q q x n P = unless Q (leb (2 ^ n) x) 12 0 q (passes Q (P x))
 
 pub testing-place : (t : List ℕ) (x : ℕ) (s : List ℕ) → Refuses Low (testing t x s)
 unfolding testing
-testing-place t x s = then-refuses Low (checking t s) _ (checking-place _ t s) (λ _ _. test-place x (settings (wordAt t)) (permitted (wordAt t)))
+testing-place t x s = then-refuses Low (checking t s) _ (checking-place _ t s) (λ _ _. test-refuses Low (omega arith) x (settings (wordAt t)) (permitted (wordAt t)))
 
 -- a header's first field has six bits
 pub settings-fit : (t : List ℕ) → ((i : ℕ) → getD t i 0 < 256) → settings (wordAt t) ≤ 63

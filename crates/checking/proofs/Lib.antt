@@ -1,6 +1,8 @@
 -- The laws that the operations' proofs use.
 pub mod Compose
 pub mod Accepting
+pub mod Lending
 pub mod Answering
 pub mod Bounds
 pub mod Walking
+pub mod Blank

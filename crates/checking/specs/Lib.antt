@@ -1,4 +1,5 @@
 -- What the operations answer and leave in the sheet.
 pub mod Answers
 pub mod Operations
+pub mod Sheets
 pub mod Inner

@@ -5,7 +5,7 @@ use mathlib.Core.List.{List}
 use lib.Dec.{eqb, leb}
 use lib.ListN.{length}
 use Rattle.words.specs.Words.{wordAt, wordsOver}
-use Rattle.diagram.specs.Format.{Words, settings, nodes}
+use Rattle.diagram.specs.Format.{settings, nodes}
 use Rattle.diagram.specs.Meaning.{permitted}
 use Rattle.diagram.specs.Count.{place, total}
 use Rattle.diagram.specs.Answer.{Answer, value, refusal, andThen}
@@ -31,15 +31,19 @@ testSetup x n P = cond (leb (2 ^ n) x) (refusal 12 0) (value (P x))
 unfoldable pub testing : List ℕ → ℕ → List ℕ → Answer Bool
 testing table x sheet = andThen (checking table sheet) (λ _. testSetup x (settings (wordAt table)) (permitted (wordAt table)))
 
--- the sheet after an answer of the check, of N nodes: the counts; or zeros, after 9; or untouched. Past place N, and in spare bytes, it is always as before
-unfoldable pub sheetBy : {A : Type 0} → Words → ℕ → Answer A → List ℕ → List ℕ
-sheetBy w N (value v) sheet = wordsOver (place w) (N + 1) sheet
-sheetBy w N (refusal number at) sheet = cond (eqb number 9) (wordsOver (λ _. 0) (N + 1) sheet) sheet
+-- the sheet after an answer of the check: its first m places hold f, or zeros after 9, or it is untouched. Past them, and in spare bytes, it is always as before
+unfoldable pub sheetBy : {A : Type 0} → (ℕ → ℕ) → ℕ → Answer A → List ℕ → List ℕ
+sheetBy f m (value v) sheet = wordsOver f m sheet
+sheetBy f m (refusal number at) sheet = cond (eqb number 9) (wordsOver (λ _. 0) m sheet) sheet
 
--- the sheet after the check
-unfoldable pub sheetAfterFor : (ℕ → ℕ) → List ℕ → List ℕ → List ℕ
-sheetAfterFor need table sheet = sheetBy (wordAt table) (nodes (wordAt table)) (checkingFor need table sheet) sheet
+-- the blank sheet, which every operation but counting hands back: the `need N` places that it needs are zero once the rules before 9 are passed
+unfoldable pub blankFor : (ℕ → ℕ) → List ℕ → List ℕ → List ℕ
+blankFor need table sheet = sheetBy (λ _. 0) (need (nodes (wordAt table))) (checkingFor need table sheet) sheet
 
--- the sheet after each of these operations
-abbrev pub sheetAfter : List ℕ → List ℕ → List ℕ
-sheetAfter table sheet = sheetAfterFor (λ N. N + 1) table sheet
+-- ... of N + 1 places
+abbrev pub blank : List ℕ → List ℕ → List ℕ
+blank table sheet = blankFor (λ N. N + 1) table sheet
+
+-- the sheet after counting: the counts
+unfoldable pub counts : List ℕ → List ℕ → List ℕ
+counts table sheet = sheetBy (place (wordAt table)) (nodes (wordAt table) + 1) (checking table sheet) sheet

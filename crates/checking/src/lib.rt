@@ -3,17 +3,15 @@ mod walk;
 
 pub use walk::permitted_under;
 ghost use mathlib.Core.Path.{_≡_};
-ghost use Prim.Native.Nat.{_+_, _*_, _/_, _≤_, _<_};
-ghost use lib.ListN.{length};
+ghost use Prim.Native.Nat.{_+_, _*_, _/_, _≤_};
 ghost use Rattle.words.specs.Words.{wordAt};
 ghost use Rattle.diagram.specs.Meaning.{under};
 ghost use Rattle.diagram.specs.Answer.{refusal};
-ghost use Rattle.diagram.specs.Rules.{checkDiagram};
 ghost use Rattle.diagram.specs.Reading.{Within};
-ghost use Rattle.rules.specs.Refusals.{numberOf, placeOf, verdictAs};
+ghost use Rattle.rules.specs.Refusals.{numberOf, placeOf};
 ghost use Rattle.checking.specs.Answers.{checkedAs, countedAs, testedAs};
-ghost use Rattle.checking.specs.Operations.{checking, checkingFor, counting, testSetup, testing, sheetBy, sheetAfter, sheetAfterFor};
-ghost use Rattle.checking.specs.Inner.{IsRefused};
+ghost use Rattle.checking.specs.Operations.{checking, counting, testSetup, testing, blank, counts};
+ghost use Rattle.checking.specs.Inner.{IsRefused, Begins};
 use diagram::Edge;
 use diagram::Setup;
 use rules::Refusal;
@@ -40,32 +38,21 @@ pub enum Tested {
     Refused(Refusal),
 }
 
-// Rules 4 to 9, of a diagram of n settings and N nodes, with the sheet as they leave it.
-fn check_diagram(table: &[u8], sheet: &mut [u8], n: u64, nodes: usize) -> Verdict
-    requires { ⌜ (8 * nodes + 8 ≤ length (now table)) × (8 * nodes + 8 ≤ length (now sheet)) × (nodes ≤ 65535) × (n ≤ 63) ⌝ }
-    ensures { λ r. ⌜ (verdictAs r ≡ checkDiagram (wordAt (now (table .entry))) n nodes)
-        × (now (sheet .exit) ≡ sheetBy (wordAt (now (table .entry))) nodes (verdictAs r) (now (sheet .entry))) ⌝ }
-{
-    let records = rules::check_records(table, n, nodes);
-    let Verdict::Passed = records else {
-        return records;
-    };
-    counting::check_names(table, sheet, n, nodes)
-}
-
-// Checks a table where each × N + more places of the sheet are needed: its n and N, or its refusal.
-pub fn check_for(table: &[u8], sheet: &mut [u8], each: usize, more: usize) -> Checked
-    requires { ⌜ (0 < each) × (each ≤ 64) × (0 < more) × (more ≤ 512) ⌝ }
-    ensures { λ r. ⌜ (checkedAs r ≡ checkingFor (λ N. each * N + more) (now (table .entry)) (now (sheet .entry)))
-        × (now (sheet .exit) ≡ sheetAfterFor (λ N. each * N + more) (now (table .entry)) (now (sheet .entry))) ⌝ }
+// How an operation begins that needs each × N + more places of the sheet: the table's n and N, or its refusal. After 9 the sheet is blank, otherwise it is untouched.
+pub fn begin_with(table: &[u8], sheet: &mut [u8], each: usize, more: usize) -> Checked
+    requires { ⌜ (each ≤ 64) × (more ≤ 512) ⌝ }
+    ensures { λ r. ⌜ Begins (λ N. each * N + more) (now (table .entry)) (now (sheet .entry)) (now (sheet .exit)) r ⌝ }
 {
     let header = rules::check_header(table, sheet.len() / 8, each, more);
     if let Verdict::Refused(r) = header {
         return Checked::Refused(r);
     }
     let h = diagram::header_of(table);
-    let verdict = check_diagram(table, sheet, h.settings, h.nodes);
+    let verdict = records::check_diagram(table, h.settings, h.nodes);
     if let Verdict::Refused(r) = verdict {
+        if rules::number_of(r) == 9 {
+            words::blank(sheet, each * h.nodes + more);
+        }
         return Checked::Refused(r);
     }
     Checked::Table(Shape {
@@ -74,12 +61,23 @@ pub fn check_for(table: &[u8], sheet: &mut [u8], each: usize, more: usize) -> Ch
     })
 }
 
+// ... that needs N + 1 places, as most do.
+pub fn begin(table: &[u8], sheet: &mut [u8]) -> Checked
+    ensures { λ r. ⌜ Begins (λ N. N + 1) (now (table .entry)) (now (sheet .entry)) (now (sheet .exit)) r ⌝ }
+{
+    begin_with(table, sheet, 1, 1)
+}
+
 // Checks a table: its n and N, or its refusal.
 pub fn check(table: &[u8], sheet: &mut [u8]) -> Checked
     ensures { λ r. ⌜ (checkedAs r ≡ checking (now (table .entry)) (now (sheet .entry)))
-        × (now (sheet .exit) ≡ sheetAfter (now (table .entry)) (now (sheet .entry))) ⌝ }
+        × (now (sheet .exit) ≡ blank (now (table .entry)) (now (sheet .entry))) ⌝ }
 {
-    check_for(table, sheet, 1, 1)
+    let checked = begin(table, sheet);
+    if let Checked::Table(shape) = checked {
+        words::blank(sheet, shape.nodes + 1);
+    }
+    checked
 }
 
 // The refusal that an answer of the check holds. (The other case is required away: no call reaches it.)
@@ -93,17 +91,19 @@ pub fn refusal_of(checked: Checked) -> Refusal
     }
 }
 
-// Counts the permitted setups.
+// Counts the permitted setups. Their counts by node stay in the sheet.
 pub fn count(table: &[u8], sheet: &mut [u8]) -> Counted
     ensures { λ r. ⌜ (countedAs r ≡ counting (now (table .entry)) (now (sheet .entry)))
-        × (now (sheet .exit) ≡ sheetAfter (now (table .entry)) (now (sheet .entry))) ⌝ }
+        × (now (sheet .exit) ≡ counts (now (table .entry)) (now (sheet .entry))) ⌝ }
 {
-    let checked = check(table, sheet);
+    let checked = begin(table, sheet);
     let Checked::Table(_) = checked else {
         return Counted::Refused(refusal_of(checked));
     };
     let header = diagram::header_of(table);
-    let c = counting::count_under(table, sheet, header.root, header.settings);
+    counting::fill(table, sheet, header.settings, header.nodes);
+    let c = counting::count_under(sheet, header.root, header.settings);
+    counting::settle(table, sheet, header.nodes);
     Counted::Total(c)
 }
 
@@ -121,12 +121,13 @@ pub fn test_setup(table: &[u8], n: u64, e: Edge, x: Setup) -> Tested
 // Tests whether a setup is permitted.
 pub fn test(table: &[u8], x: Setup, sheet: &mut [u8]) -> Tested
     ensures { λ r. ⌜ (testedAs r ≡ testing (now (table .entry)) (x .0) (now (sheet .entry)))
-        × (now (sheet .exit) ≡ sheetAfter (now (table .entry)) (now (sheet .entry))) ⌝ }
+        × (now (sheet .exit) ≡ blank (now (table .entry)) (now (sheet .entry))) ⌝ }
 {
-    let checked = check(table, sheet);
+    let checked = begin(table, sheet);
     let Checked::Table(_) = checked else {
         return Tested::Refused(refusal_of(checked));
     };
     let header = diagram::header_of(table);
+    words::blank(sheet, header.nodes + 1);
     test_setup(table, header.settings, header.root, x)
 }

@@ -5,7 +5,7 @@ ghost use mathlib.Core.Path.{_≡_};
 ghost use Prim.Native.Nat.{ℕ};
 ghost use lib.ListN.{length};
 ghost use Rattle.rules.specs.Packed.{packed};
-ghost use Rattle.checking.specs.Operations.{sheetAfter};
+ghost use Rattle.checking.specs.Operations.{blank};
 ghost use Rattle.ranking.specs.Operations.{ranking, unranking};
 ghost use Rattle.lists.specs.Operations.{items, unrankingList, setupsAfter};
 ghost use Rattle.tables.specs.Writing.{lengthOf};
@@ -22,7 +22,7 @@ use writing::Written;
 #[no_mangle]
 pub extern "C" fn setupbook_rank(table: &[u8], setup: u64, sheet: &mut [u8]) -> u64
     ensures { λ r. ⌜ (r ≡ packed (λ (v : ℕ). v) (ranking (now (table .entry)) setup (now (sheet .entry))))
-        × (now (sheet .exit) ≡ sheetAfter (now (table .entry)) (now (sheet .entry))) ⌝ }
+        × (now (sheet .exit) ≡ blank (now (table .entry)) (now (sheet .entry))) ⌝ }
 {
     let ranked = ranking::rank(table, Setup(setup), sheet);
     match ranked {
@@ -35,7 +35,7 @@ pub extern "C" fn setupbook_rank(table: &[u8], setup: u64, sheet: &mut [u8]) -> 
 #[no_mangle]
 pub extern "C" fn setupbook_unrank(table: &[u8], rank: u64, sheet: &mut [u8]) -> u64
     ensures { λ r. ⌜ (r ≡ packed (λ (v : ℕ). v) (unranking (now (table .entry)) rank (now (sheet .entry))))
-        × (now (sheet .exit) ≡ sheetAfter (now (table .entry)) (now (sheet .entry))) ⌝ }
+        × (now (sheet .exit) ≡ blank (now (table .entry)) (now (sheet .entry))) ⌝ }
 {
     let unranked = ranking::unrank(table, Rank(rank), sheet);
     match unranked {
@@ -55,7 +55,7 @@ pub extern "C" fn setupbook_unrank_list(
 ) -> u64
     ensures { λ r. ⌜ (r ≡ returned (unrankingList (now (table .entry)) (now (ranks .entry)) (now (sheet .entry)) (items (now (setups .entry)))))
         × (now (answer .exit) ≡ told single (unrankingList (now (table .entry)) (now (ranks .entry)) (now (sheet .entry)) (items (now (setups .entry)))))
-        × (now (sheet .exit) ≡ sheetAfter (now (table .entry)) (now (sheet .entry)))
+        × (now (sheet .exit) ≡ blank (now (table .entry)) (now (sheet .entry)))
         × (now (setups .exit) ≡ setupsAfter (now (table .entry)) (now (ranks .entry)) (now (sheet .entry)) (now (setups .entry))) ⌝ }
 {
     let listed = lists::unrank_list(table, ranks, sheet, setups);

@@ -1,6 +1,4 @@
--- The laws of counting and marking, in the terms of the code.
+-- The laws of filling the sheet and of counting by it, in the terms of the code.
 pub mod Places
-pub mod Under
 pub mod Shares
 pub mod Filling
-pub mod Marks

@@ -1,92 +1,104 @@
--- The shares of 2 ^ 63, in the terms of the code. Assumes nothing.
-use Prim.Native.Nat.{ℕ, zero, suc, _+_, _-_, _*_, _/_, _%_, _^_, _≤_, _<_}
-use mathlib.Core.Path.{_≡_, refl, sym, ap, ap₂, _∙_}
+-- Counting by the shares of 2 ^ 63 in the places, in the terms of the code. Assumes nothing.
+use Prim.Native.Nat.{ℕ, _+_, _-_, _*_, _/_, _%_, _^_, _≤_, _<_}
+use mathlib.Core.Path.{_≡_, sym, ap, _∙_}
+use mathlib.Core.Bool.{Bool, true, false}
 use mathlib.Core.List.{List}
 use native.Mathlib.Omega.{arith}
-use native.Mathlib.Nat.{mul-comm, mul-assoc, add-mul, mul-sub, mul-le-mul-right, mul-div-cancel, le-trans, le-of-eq, two-pow-succ, add-comm}
-use lib.Pow.{pow-pos, pow-add}
+use native.Mathlib.Nat.{le-refl, mul-comm, mul-div-cancel}
+use lib.Dec.{eqb}
+use lib.Pow.{pow-pos}
 use Rattle.words.specs.Words.{wordAt}
+use Rattle.words.specs.Swap.{swap}
+use Rattle.words.proofs.Swaps.{swap-swap}
 use Rattle.diagram.specs.Format.{Words, height}
-use Rattle.diagram.specs.Count.{place}
-use Rattle.diagram.specs.Reading.{IsRecord, opposite, edgeCount}
+use Rattle.diagram.specs.Meaning.{under}
+use Rattle.diagram.specs.Count.{countBelow, place}
+use Rattle.diagram.specs.Reading.{IsRecord, opposite, share}
 use Rattle.diagram.proofs.Paths.{Lower}
-use Rattle.diagram.proofs.Inside.{within-low, high-lower, low-lower}
-use Rattle.diagram.proofs.Counts.{through, place-rec}
-use Rattle.counting.specs.Inner.{share, Sharing}
-use Rattle.counting.proofs.Places.{place-le, place-sink}
+use Rattle.diagram.proofs.Edges.{opposite-set, opposite-clear}
+use Rattle.diagram.proofs.Inside.{within-low, within-below, high-lower, low-lower}
+use Rattle.diagram.proofs.Counts.{share-edge, count-share, place-share, share-rec}
+use Rattle.counting.specs.Inner.{stored, Filled, Next, Opens, Opened, CountsUnder}
+use Rattle.counting.proofs.Places.{share-le}
 
--- 2 ^ 63, parted at a height
-parted : (g : ℕ) → g ≤ 63 → 2 ^ g * 2 ^ (63 - g) ≡ 2 ^ 63
-parted g l = let e : g + (63 - g) ≡ 63 = omega arith in sym (pow-add 2 g (63 - g)) ∙ ap (λ (m : ℕ). 2 ^ m) e
+-- a smaller node's places are filled too
+pub filled-below : (t s : List ℕ) (k : ℕ) → Filled t s k → (j : ℕ) → j ≤ k → Filled t s j
+filled-below t s k F j l = record {
+  within = within-below t k (F .within) j l;
+  room = omega (arith, F .room);
+  shares = λ i q. F .shares i (omega arith);
+}
 
-pub share-le : (w : Words) (k : ℕ) → height w k ≤ 63 → share w k ≤ 2 ^ 63
-unfolding share
-share-le w k l = le-trans (mul-le-mul-right (2 ^ (63 - height w k)) (place-le w k)) (le-of-eq (parted (height w k) l))
+-- m times c, shifted back by as many
+back : (v m c : ℕ) → 0 < m → v ≡ m * c → v / m ≡ c
+back v m c p q = ap (λ (x : ℕ). x / m) (q ∙ mul-comm m c) ∙ mul-div-cancel c p
 
-pub share-sink : (w : Words) → share w 0 ≡ 2 ^ 63
-unfolding share height
-share-sink w = ap (λ (c : ℕ). c * 2 ^ 63) (place-sink w)
+-- the number loaded from a filled place is its node's share
+module _ (t s : List ℕ) (k : ℕ) (F : Filled t s k) (v r : ℕ) (r-fits : r < 18446744073709551616) (r-is : swap r ≡ wordAt s v) where
+  share-held : (j : ℕ) → v ≡ j → j ≤ k → r ≡ share (wordAt t) j
+  unfolding stored
+  share-held j v-is l =
+      sym (swap-swap r r-fits) ∙ ap swap (r-is ∙ ap (wordAt s) v-is ∙ F .shares j l) ∙ swap-swap (share (wordAt t) j) (omega (arith, share-le (wordAt t) j))
 
--- a share, shifted back, is the count
-pub share-place : (w : Words) (k : ℕ) → share w k / 2 ^ (63 - height w k) ≡ place w k
-unfolding share
-share-place w k = mul-div-cancel (place w k) (pow-pos (63 - height w k))
+  -- ... and shifted by the settings above it, its count
+  pub settled : (j : ℕ) → v ≡ j → j ≤ k → r / 2 ^ (63 - height (wordAt t) j) ≡ place (wordAt t) j
+  settled j v-is l =
+      let W = within-below t k (F .within) j l in
+      back r _ _ (pow-pos (63 - height (wordAt t) j)) (share-held j v-is l ∙ place-share (wordAt t) (W .settings) (W .nodes) (W .holds .ordered) j (W .inside) (within-low t j W))
 
--- d times the opposite
-opposite-times : (f m c d : ℕ) → opposite f m c * d ≡ opposite f (m * d) (c * d)
-unfolding opposite
-opposite-times zero m c d = refl
-opposite-times (suc f) m c d = mul-comm (m - c) d ∙ mul-sub d m c ∙ ap₂ _-_ (mul-comm d m) (mul-comm d c)
+-- the share of an edge to a filled place
+module _ (s : List ℕ) (e v r : ℕ) (v-is : v ≡ e / 2) (r-fits : r < 18446744073709551616) (r-is : swap r ≡ wordAt s v) where
+  pub share-most : (t : List ℕ) → Filled t s (e / 2) → r ≤ 2 ^ 63
+  share-most t F = rw (share-held t s (e / 2) F v r r-fits r-is (e / 2) v-is (le-refl (e / 2))) (share-le (wordAt t) (e / 2))
 
--- of m, at most m
-opposite-le : (f m c : ℕ) → c ≤ m → opposite f m c ≤ m
-unfolding opposite
-opposite-le zero m c l = l
-opposite-le (suc f) m c l = omega arith
+  edge-share : (t : List ℕ) → Filled t s (e / 2) → opposite (e % 2) (2 ^ 63) r ≡ countBelow (under (wordAt t) e) (2 ^ 63)
+  edge-share t F = ap (opposite (e % 2) (2 ^ 63)) (share-held t s (e / 2) F v r r-fits r-is (e / 2) v-is (le-refl (e / 2))) ∙ sym (share-edge (wordAt t) e)
 
--- an edge from height h to a node of height g and count c: half of its share
-half-share : (f g h c : ℕ) → g < h → h ≤ 63 → edgeCount f g (h - 1) c * 2 ^ (63 - h) ≡ opposite f (2 ^ 63) (c * 2 ^ (63 - g)) / 2
-unfolding edgeCount
-half-share f g h c l m =
-    let o = opposite f (2 ^ g) c in
-    let x = 2 ^ (62 - g) in
-    let i : 63 - h + (h - 1 - g) ≡ 62 - g = omega arith in
-    let j : 63 - g ≡ suc (62 - g) = omega arith in
-    let a : 2 ^ (63 - h) * 2 ^ (h - 1 - g) ≡ x = sym (pow-add 2 (63 - h) (h - 1 - g)) ∙ ap (λ (m : ℕ). 2 ^ m) i in
-    let b : 2 ^ (63 - g) ≡ x + x = ap (λ (m : ℕ). 2 ^ m) j ∙ two-pow-succ (62 - g) in
-    let d : opposite f (2 ^ 63) (c * 2 ^ (63 - g)) ≡ o * (x + x) =
-    ap (λ (m : ℕ). opposite f m (c * 2 ^ (63 - g))) (sym (parted g (omega arith))) ∙ sym (opposite-times f (2 ^ g) c (2 ^ (63 - g))) ∙ ap (λ (m : ℕ). o * m) b in
-    let e : 2 ^ (h - 1 - g) * o * 2 ^ (63 - h) ≡ x * o = mul-comm (2 ^ (h - 1 - g) * o) (2 ^ (63 - h)) ∙ sym (mul-assoc (2 ^ (63 - h)) (2 ^ (h - 1 - g)) o) ∙ ap (λ (m : ℕ). m * o) a in
-    e ∙ rw d (omega arith)
+  pub share-plain : (f : Bool) → f ≡ eqb (e % 2) 1 → f ≡ false → CountsUnder s e 63 r
+  share-plain f f-is q t O = sym (opposite-clear e f f-is q (2 ^ 63) r) ∙ edge-share t (O .filled)
 
--- node k, with its record, where the places below it hold the shares
-module _ (t s : List ℕ) (k h a b : ℕ) (p : 0 < k) (R : Sharing t s k) (r : IsRecord (wordAt t) k h a b) where
+  pub share-flagged : (f : Bool) → f ≡ eqb (e % 2) 1 → f ≡ true → CountsUnder s e 63 (2 ^ 63 - r)
+  share-flagged f f-is q t O = sym (opposite-set e f f-is q (2 ^ 63) r) ∙ edge-share t (O .filled)
+
+-- an edge that can be counted has a share
+full : (t s : List ℕ) (e : ℕ) → Filled t s (e / 2) → Opens t s e 63
+full t s e F = record { filled = F; low = within-low t (e / 2) (F .within); few = le-refl 63 }
+
+pub opened : (s : List ℕ) (e h : ℕ) → Opened s e h → Opened s e 63
+opened s e h O = (O .0, full (O .0) s e (O .1 .filled))
+
+-- ... which, shifted, is its count
+pub counts-under : (s : List ℕ) (e h c : ℕ) → CountsUnder s e 63 c → CountsUnder s e h (c / 2 ^ (63 - h))
+counts-under s e h c c-is t O =
+    let F = O .filled in
+    let W = F .within in
+    back c (2 ^ (63 - h)) _ (pow-pos (63 - h)) (c-is t (full t s e F) ∙ count-share (wordAt t) (W .settings) (W .nodes) (W .holds .ordered) e h (W .inside) (O .low) (O .few))
+
+-- node k, with its record, where the places below it are filled
+module _ (t s : List ℕ) (k h a b : ℕ) (p : 0 < k) (R : Next t s k) (r : IsRecord (wordAt t) k h a b) where
   abbrev w : Words
   w = wordAt t
 
-  low-share : (e : ℕ) → Lower w k e → wordAt s (e / 2) ≤ 2 ^ 63
-  low-share e q = rw (R .shares (e / 2) (q .node)) (share-le w (e / 2) (omega (arith, q .low, within-low t k (R .within))))
+  lower-filled : (e : ℕ) → Lower w k e → Filled t s (e / 2)
+  lower-filled e q = filled-below t s (k - 1) (R .below) (e / 2) (omega (arith, q .node))
 
-  pub low-fits : wordAt s (b / 2) ≤ 2 ^ 63
-  low-fits = low-share b (low-lower t k h a b p (R .within) r)
+  pub high-filled : Filled t s (a / 2)
+  high-filled = lower-filled a (high-lower t k h a b p (R .within) r)
 
-  -- the halves of its edges' shares add up to its own, which fits
-  pub share-sum : (c d : ℕ) → c ≡ wordAt s (a / 2) → d ≡ opposite (b % 2) (2 ^ 63) (wordAt s (b / 2))
+  low-filled : Filled t s (b / 2)
+  low-filled = lower-filled b (low-lower t k h a b p (R .within) r)
+
+  pub low-opens : Opens t s b 63
+  low-opens = full t s b low-filled
+
+  -- the halves of its edges' shares add up to its own, which fits: c is loaded from the place of the then-edge's node v
+  pub share-sum : (v c d : ℕ) → v ≡ a / 2 → c < 18446744073709551616 → swap c ≡ wordAt s v → CountsUnder s b 63 d
       → (c / 2 + d / 2 ≡ share w k) × (c / 2 + d / 2 < 18446744073709551616)
-  unfolding share opposite
-  share-sum c d u v =
+  unfolding opposite
+  share-sum v c d v-is c-fits c-is d-is =
       let W = R .within in
-      let P = 2 ^ (63 - height w k) in
-      let i = within-low t k W in
-      let x = high-lower t k h a b p W r in
-      let y = low-lower t k h a b p W r in
-      let z : a % 2 ≡ 0 = ap (λ (e : ℕ). e % 2) (r .then-is) ∙ R .plain in
-      let hi : c / 2 ≡ through w (height w k - 1) a * P =
-      ap (λ (m : ℕ). m / 2) (u ∙ R .shares (a / 2) (x .node)) ∙ sym (half-share (a % 2) (height w (a / 2)) (height w k) (place w (a / 2)) (x .low) i ∙ rw z) in
-      let lo : d / 2 ≡ through w (height w k - 1) b * P =
-      ap (λ (m : ℕ). m / 2) (v ∙ ap (opposite (b % 2) (2 ^ 63)) (R .shares (b / 2) (y .node))) ∙ sym (half-share (b % 2) (height w (b / 2)) (height w k) (place w (b / 2)) (y .low) i) in
-      let e : place w k ≡ through w (height w k - 1) b + through w (height w k - 1) a =
-      rw (r .then-is, r .else-is) (place-rec w (W .settings) (W .nodes) (W .holds .ordered) k p (W .inside)) in (
-        ap₂ _+_ hi lo ∙ add-comm _ _ ∙ sym (ap (λ (m : ℕ). m * P) e ∙ add-mul _ _ P),
-        omega (arith, u, low-share a x, v, opposite-le (b % 2) (2 ^ 63) (wordAt s (b / 2)) low-fits),
-      )
+      let plain : a % 2 ≡ 0 = ap (λ (e : ℕ). e % 2) (r .then-is) ∙ R .plain in
+      let high : c ≡ countBelow (under w a) (2 ^ 63) = sym (ap (λ (f : ℕ). opposite f (2 ^ 63) c) plain) ∙ edge-share s a v c v-is c-fits c-is t high-filled in
+      let low : d ≡ countBelow (under w b) (2 ^ 63) = d-is t low-opens in
+      let sum : c / 2 + d / 2 ≡ share w k = rw (high, low, r .then-is, r .else-is) (sym (share-rec w (W .settings) (W .nodes) (W .holds .ordered) k p (W .inside) (within-low t k W))) in
+      (sum, omega (arith, sum, share-le w k))

@@ -1,151 +1,68 @@
-// Filling the sheet: the shares of the nodes, upward; then their counts, with rule 9 in the same pass; and zeros.
+// Counting by shares: a node's place in the sheet holds how many of the setups of 63 settings a plain edge to it permits. A share is one number for every height, so a gap costs nothing. It stands least significant byte first, as the machine loads it.
 ghost use mathlib.Core.Path.{_≡_};
-ghost use Prim.Native.Nat.{_+_, _-_, _*_, _/_, _%_, _≤_, _<_, _^_};
-ghost use lib.ListN.{length, set};
+ghost use Prim.Native.Nat.{_+_, _*_, _≤_, _<_};
+ghost use lib.ListN.{length};
 ghost use Rattle.words.specs.Words.{wordAt, putWord, wordsOver};
-ghost use Rattle.diagram.specs.Meaning.{under};
-ghost use Rattle.diagram.specs.Count.{countBelow};
-ghost use Rattle.diagram.specs.Rules.{checkNames};
+ghost use Rattle.diagram.specs.Count.{place};
 ghost use Rattle.diagram.specs.Ordered.{Reduced, HasDiagram};
-ghost use Rattle.diagram.specs.Reading.{Within, opposite, edgeCount};
-ghost use Rattle.rules.specs.Refusals.{verdictAs};
-ghost use Rattle.counting.specs.Inner.{Opens, share, HoldsShares, Sharing, Marked, checkMarks, settled};
+ghost use Rattle.counting.specs.Inner.{stored, Filled, Next, Opened, CountsUnder};
 use diagram::Edge;
 use diagram::Node;
-use diagram::Record;
-use rules::Refusal;
-use rules::Verdict;
 
-// The count of edge e from height h, by the place of its node, whose height is g.
-pub fn count_edge(sheet: &[u8], e: Edge, g: u64, h: u64) -> u64
-    requires { ⌜ (8 * (e .value / 2) + 8 ≤ length (now sheet)) × (wordAt (now sheet) (e .value / 2) ≤ 2 ^ g) × (g ≤ h) × (h ≤ 63) ⌝ }
-    ensures { λ r. ⌜ r ≡ edgeCount (e .value % 2) g h (wordAt (now (sheet .entry)) (e .value / 2)) ⌝ }
-{
-    let c = words::word_at(sheet, e.node().0);
-    if e.flagged() {
-        return ((1 << g) - c) << (h - g);
-    }
-    c << (h - g)
-}
-
-// How many of the setups of h settings edge e permits.
-pub fn count_under(table: &[u8], sheet: &[u8], e: Edge, h: u64) -> u64
-    requires { ⌜ Opens (now table) (now sheet) (e .value) h ⌝ }
-    ensures { λ r. ⌜ r ≡ countBelow (under (wordAt (now (table .entry))) (e .value)) (2 ^ h) ⌝ }
-{
-    let g = diagram::height_at(table, e.node());
-    count_edge(sheet, e, g, h)
-}
-
-// The share of edge e, by the share of its node.
+// The share of edge e: that of its node, or the others of the 2^63 under a flag.
 fn share_of(sheet: &[u8], e: Edge) -> u64
-    requires { ⌜ (8 * (e .value / 2) + 8 ≤ length (now sheet)) × (wordAt (now sheet) (e .value / 2) ≤ 2 ^ 63) ⌝ }
-    ensures { λ r. ⌜ r ≡ opposite (e .value % 2) (2 ^ 63) (wordAt (now (sheet .entry)) (e .value / 2)) ⌝ }
+    requires { ⌜ Opened (now sheet) (e .value) 63 ⌝ }
+    ensures { λ r. ⌜ CountsUnder (now (sheet .entry)) (e .value) 63 r ⌝ }
 {
-    let s = words::word_at(sheet, e.node().0);
+    let s = words::load(sheet, e.node().0);
     if e.flagged() {
         return (1 << 63) - s;
     }
     s
 }
 
-// Marks the nodes that a record of these fields names.
-fn mark_named(marks: &mut [u8], fields: Record)
-    requires { ⌜ (fields .high .value / 2 < length (now marks)) × (fields .low .value / 2 < length (now marks)) ⌝ }
-    ensures { λ _. ⌜ now (marks .exit) ≡ set (set (now (marks .entry)) (fields .high .value / 2) 1) (fields .low .value / 2) 1 ⌝ }
+// How many of the setups of h settings edge e permits.
+pub fn count_under(sheet: &[u8], e: Edge, h: u64) -> u64
+    requires { ⌜ Opened (now sheet) (e .value) h ⌝ }
+    ensures { λ r. ⌜ CountsUnder (now (sheet .entry)) (e .value) h r ⌝ }
 {
-    let a = fields.high.node().0;
-    let b = fields.low.node().0;
-    marks[a] = 1;
-    marks[b] = 1;
+    share_of(sheet, e) >> (63 - h)
 }
 
-// Fills place k with the share of node k, and marks the nodes that its record names.
-fn enter_node(table: &[u8], sheet: &mut [u8], marks: &mut [u8], k: Node)
-    requires { ⌜ (0 < k .0) × Sharing (now table) (now sheet) (k .0) × (k .0 < length (now marks)) × Marked (now marks) (k .0 - 1) (wordAt (now table)) ⌝ }
-    ensures { λ _. ⌜ (now (sheet .exit) ≡ putWord (now (sheet .entry)) (k .0) (share (wordAt (now (table .entry))) (k .0)))
-        × (length (now (marks .exit)) ≡ length (now (marks .entry))) × Marked (now (marks .exit)) (k .0) (wordAt (now (table .entry))) ⌝ }
+// Fills place k with the share of node k: half of the setups leave it by its then-edge, which is plain, half by its else-edge.
+fn enter_node(table: &[u8], sheet: &mut [u8], k: Node)
+    requires { ⌜ (0 < k .0) × Next (now table) (now sheet) (k .0) ⌝ }
+    ensures { λ _. ⌜ now (sheet .exit) ≡ putWord (now (sheet .entry)) (k .0) (stored (wordAt (now (table .entry))) (k .0)) ⌝ }
 {
-    let fields = diagram::record_at(table, k);
-    mark_named(marks, fields);
-    let s = words::word_at(sheet, fields.high.node().0) / 2 + share_of(sheet, fields.low) / 2;
-    words::put_word(sheet, k.0, s);
+    let record = diagram::record_at(table, k);
+    let s = words::load(sheet, record.high.node().0) / 2 + share_of(sheet, record.low) / 2;
+    words::store(sheet, k.0, s);
 }
 
-// Fills places 0 to N with the shares, and marks the nodes that a record names.
-fn count_nodes(table: &[u8], sheet: &mut [u8], marks: &mut [u8], n: u64, nodes: usize)
-    requires { ⌜ HasDiagram (now table) n nodes × Reduced (wordAt (now table)) n nodes × (8 * nodes + 8 ≤ length (now sheet))
-        × (nodes < length (now marks)) × Marked (now marks) 0 (wordAt (now table)) ⌝ }
-    ensures { λ _. ⌜ (now (sheet .exit) ≡ wordsOver (share (wordAt (now (table .entry)))) (nodes + 1) (now (sheet .entry)))
-        × (length (now (marks .exit)) ≡ length (now (marks .entry))) × Marked (now (marks .exit)) nodes (wordAt (now (table .entry))) ⌝ }
+// Fills places 0 to N with the shares.
+pub fn fill(table: &[u8], sheet: &mut [u8], n: u64, nodes: usize)
+    requires { ⌜ HasDiagram (now table) n nodes × Reduced (wordAt (now table)) n nodes × (8 * (nodes + 1) ≤ length (now sheet)) ⌝ }
+    ensures { λ _. ⌜ now (sheet .exit) ≡ wordsOver (stored (wordAt (now (table .entry)))) (nodes + 1) (now (sheet .entry)) ⌝ }
 {
-    words::put_word(sheet, 0, 1 << 63);
+    words::store(sheet, 0, 1 << 63);
     let mut k = 0;
     while k < nodes {
         k += 1;
-        enter_node(table, sheet, marks, Node(k));
+        enter_node(table, sheet, Node(k));
     }
 }
 
-// Fills places 0 to p - 1 with zero.
-pub fn blank(sheet: &mut [u8], p: usize)
-    requires { ⌜ 8 * p ≤ length (now sheet) ⌝ }
-    ensures { λ _. ⌜ now (sheet .exit) ≡ wordsOver (λ _. 0) p (now (sheet .entry)) ⌝ }
-{
-    let mut k = 0;
-    while k < p {
-        words::put_word(sheet, k, 0);
-        k += 1;
-    }
-}
-
-// Rule 9 by the marks, of nodes 1 to `last`: the shares become the counts, or zeros if it refuses.
-fn settle(table: &[u8], sheet: &mut [u8], marks: &[u8], last: usize) -> Verdict
-    requires { ⌜ Within (now table) last × (8 * last + 8 ≤ length (now sheet)) × HoldsShares (wordAt (now sheet)) (last + 1) (wordAt (now table)) × (last < length (now marks)) ⌝ }
-    ensures { λ r. ⌜ (verdictAs r ≡ checkMarks (now (marks .entry)) last)
-        × (now (sheet .exit) ≡ settled (wordAt (now (table .entry))) last (verdictAs r) (now (sheet .entry))) ⌝ }
+// Turns the shares in places 0 to N into the counts, each of its node's own settings, most significant byte first.
+pub fn settle(table: &[u8], sheet: &mut [u8], nodes: usize)
+    requires { ⌜ Filled (now table) (now sheet) nodes ⌝ }
+    ensures { λ _. ⌜ now (sheet .exit) ≡ wordsOver (place (wordAt (now (table .entry)))) (nodes + 1) (now (sheet .entry)) ⌝ }
 {
     words::put_word(sheet, 0, 1);
     let mut k = 0;
-    while k < last {
+    while k < nodes {
         k += 1;
         let h = diagram::height_at(table, Node(k));
-        let s = words::word_at(sheet, k);
+        let s = words::load(sheet, k);
         words::put_word(sheet, k, s >> (63 - h));
-        if marks[k] == 0 {
-            blank(sheet, last + 1);
-            return Verdict::Refused(Refusal::Unnamed(Node(k)));
-        }
     }
-    Verdict::Passed
-}
-
-// Checks rule 9 by marks that are clear, and fills places 0 to N with the counts, or zeros if it refuses. (The last node needs no name.)
-fn count_named(table: &[u8], sheet: &mut [u8], marks: &mut [u8], n: u64, nodes: usize) -> Verdict
-    requires { ⌜ HasDiagram (now table) n nodes × Reduced (wordAt (now table)) n nodes × (8 * nodes + 8 ≤ length (now sheet))
-        × (nodes < length (now marks)) × Marked (now marks) 0 (wordAt (now table)) ⌝ }
-    ensures { λ r. ⌜ (verdictAs r ≡ checkNames (wordAt (now (table .entry))) nodes)
-        × (now (sheet .exit) ≡ settled (wordAt (now (table .entry))) nodes (verdictAs r) (now (sheet .entry))) ⌝ }
-{
-    count_nodes(table, sheet, marks, n, nodes);
-    marks[nodes] = 1;
-    settle(table, sheet, marks, nodes)
-}
-
-// The same with marks on the stack, of which small tables clear fewer.
-pub fn check_names(table: &[u8], sheet: &mut [u8], n: u64, nodes: usize) -> Verdict
-    requires { ⌜ HasDiagram (now table) n nodes × Reduced (wordAt (now table)) n nodes × (8 * nodes + 8 ≤ length (now sheet)) ⌝ }
-    ensures { λ r. ⌜ (verdictAs r ≡ checkNames (wordAt (now (table .entry))) nodes)
-        × (now (sheet .exit) ≡ settled (wordAt (now (table .entry))) nodes (verdictAs r) (now (sheet .entry))) ⌝ }
-{
-    if nodes < 256 {
-        let mut marks = [0u8; 256];
-        return count_named(table, sheet, &mut marks, n, nodes);
-    }
-    if nodes < 4096 {
-        let mut marks = [0u8; 4096];
-        return count_named(table, sheet, &mut marks, n, nodes);
-    }
-    let mut marks = [0u8; 65536];
-    count_named(table, sheet, &mut marks, n, nodes)
 }

@@ -1,4 +1,4 @@
--- Which refusals the rules can give: 9 only from rule 9, and no place above N. Assumes nothing.
+-- Which refusals the rules can give: 1 to 10, 9 only from rule 9, and no place above N. Assumes nothing.
 use Prim.Native.Nat.{ℕ, zero, suc, _+_, _-_, _*_, _/_, _%_, _≤_, _<_}
 use mathlib.Core.Path.{_≡_, refl, sym, subst}
 use mathlib.Core.Bool.{Bool, true, false, not, cond, _&&_, _||_}
@@ -36,14 +36,14 @@ unfolding andThen
 then-refuses Q (value v) f p h = h v refl
 then-refuses Q (refusal number place) f p h = refuses Q number place (p number place refl)
 
-each-refuses : (Q : ℕ → ℕ → Type 0) (f : ℕ → Answer (Unit {0})) (m : ℕ) → ((k : ℕ) → k < m → Refuses Q (f k)) → Refuses Q (each f m)
+pub each-refuses : (Q : ℕ → ℕ → Type 0) (f : ℕ → Answer (Unit {0})) (m : ℕ) → ((k : ℕ) → k < m → Refuses Q (f k)) → Refuses Q (each f m)
 unfolding each
 each-refuses Q f zero h = passes Q tt
 each-refuses Q f (suc m) h = then-refuses Q (each f m) (λ _. f m) (each-refuses Q f m (λ k l. h k (omega arith))) (λ _ e. h m (omega arith))
 
--- another number than 9, at a place up to N
+-- another number than 9, up to 10, at a place up to N
 abbrev pub Early : ℕ → ℕ → ℕ → Type 0
-Early N number place = (number ≡ 9 → ⊥) × (place ≤ N)
+Early N number place = (number ≡ 9 → ⊥) × (place ≤ N) × (number ≤ 10)
 
 -- 9, at a place up to N
 abbrev pub Nine : ℕ → ℕ → ℕ → Type 0
@@ -53,22 +53,22 @@ pub header-refuses : (bytes : List ℕ) (lent : ℕ) (need : ℕ → ℕ) → Re
 unfolding checkHeader
 header-refuses bytes lent need =
     let w = wordAt bytes in
-    unless (Early 0) (ltb (length bytes) 8) 1 0 (λ e. omega arith, omega arith)
-    (unless (Early 0) (ltb 65535 (nodes w)) 2 0 (λ e. omega arith, omega arith)
-    (unless (Early 0) (not (eqb (length bytes) (8 * (nodes w + 1)))) 1 0 (λ e. omega arith, omega arith)
-    (unless (Early 0) (not (eqb (root w / 2) (nodes w))) 3 0 (λ e. omega arith, omega arith)
-    (unless (Early 0) (ltb lent (need (nodes w))) 10 0 (λ e. omega arith, omega arith)
+    unless (Early 0) (ltb (length bytes) 8) 1 0 (λ e. omega arith, omega arith, omega arith)
+    (unless (Early 0) (ltb 65535 (nodes w)) 2 0 (λ e. omega arith, omega arith, omega arith)
+    (unless (Early 0) (not (eqb (length bytes) (8 * (nodes w + 1)))) 1 0 (λ e. omega arith, omega arith, omega arith)
+    (unless (Early 0) (not (eqb (root w / 2) (nodes w))) 3 0 (λ e. omega arith, omega arith, omega arith)
+    (unless (Early 0) (ltb lent (need (nodes w))) 10 0 (λ e. omega arith, omega arith, omega arith)
     (passes (Early 0) tt)))))
 
 pub records-refuse : (w : Words) (n N : ℕ) → Refuses (Early N) (checkRecords w n N)
 unfolding checkRecords checkRecord
 records-refuse w n N = each-refuses (Early N) (λ k. checkRecord w n (suc k)) N λ i l.
     let k = suc i in
-    unless (Early N) (eqb (height w k) 0 || ltb n (height w k)) 4 k (λ e. omega arith, l)
-    (unless (Early N) (ltb 1 k && leb (w k) (w (k - 1))) 5 k (λ e. omega arith, l)
-    (unless (Early N) (misled w k (thenEdge w k) || misled w k (elseEdge w k)) 6 k (λ e. omega arith, l)
-    (unless (Early N) (eqb (thenEdge w k % 2) 1) 7 k (λ e. omega arith, l)
-    (unless (Early N) (eqb (thenEdge w k) (elseEdge w k)) 8 k (λ e. omega arith, l)
+    unless (Early N) (eqb (height w k) 0 || ltb n (height w k)) 4 k (λ e. omega arith, l, omega arith)
+    (unless (Early N) (ltb 1 k && leb (w k) (w (k - 1))) 5 k (λ e. omega arith, l, omega arith)
+    (unless (Early N) (misled w k (thenEdge w k) || misled w k (elseEdge w k)) 6 k (λ e. omega arith, l, omega arith)
+    (unless (Early N) (eqb (thenEdge w k % 2) 1) 7 k (λ e. omega arith, l, omega arith)
+    (unless (Early N) (eqb (thenEdge w k) (elseEdge w k)) 8 k (λ e. omega arith, l, omega arith)
     (passes (Early N) tt)))))
 
 pub names-refuse : (w : Words) (N : ℕ) → Refuses (Nine N) (checkNames w N)
@@ -79,14 +79,25 @@ names-refuse w N = each-refuses (Nine N) (λ k. checkNamed w N (suc k)) (N - 1) 
     go true k l = passes (Nine N) tt
     go false k l = refuses (Nine N) 9 k (refl, l)
 
--- no place is above 65,535
-pub check-place : (bytes : List ℕ) (lent : ℕ) (need : ℕ → ℕ) → Refuses (λ number place. place ≤ 65535) (check bytes lent need)
+-- a table's own: a number up to 10, at a place up to 65,535
+abbrev pub Own : ℕ → ℕ → Type 0
+Own number place = (place ≤ 65535) × (number ≤ 10)
+
+pub check-refuses : (bytes : List ℕ) (lent : ℕ) (need : ℕ → ℕ) → Refuses Own (check bytes lent need)
 unfolding check checkDiagram
-check-place bytes lent need =
+check-refuses bytes lent need =
     let w = wordAt bytes in
-    let Low : ℕ → ℕ → Type 0 = λ number place. place ≤ 65535 in
-    then-refuses Low (checkHeader bytes lent need) _ (λ r p e. omega (arith, header-refuses bytes lent need r p e .1)) λ _ ok.
-    then-refuses Low (checkDiagram w (settings w) (nodes w)) _
-    (then-refuses Low (checkRecords w (settings w) (nodes w)) _ (λ r p e. omega (arith, records-refuse w (settings w) (nodes w) r p e .1, headed bytes lent need ok .few))
-    λ _ _ r p e. omega (arith, names-refuse w (nodes w) r p e .1, headed bytes lent need ok .few))
-    λ _ _. passes Low (settings w, nodes w)
+    then-refuses Own (checkHeader bytes lent need) _ (λ r p e. let h = header-refuses bytes lent need r p e in (omega arith, h .2)) λ _ ok.
+    then-refuses Own (checkDiagram w (settings w) (nodes w)) _
+    (then-refuses Own (checkRecords w (settings w) (nodes w)) _ (λ r p e. let h = records-refuse w (settings w) (nodes w) r p e in (omega (arith, headed bytes lent need ok .few), h .2))
+    λ _ _ r p e. let h = names-refuse w (nodes w) r p e in (omega (arith, headed bytes lent need ok .few), omega arith))
+    λ _ _. passes Own (settings w, nodes w)
+
+-- a refusal by 9 comes after the header's rules
+pub nine-headed : (bytes : List ℕ) (lent : ℕ) (need : ℕ → ℕ) (place : ℕ) → check bytes lent need ≡ refusal 9 place → checkHeader bytes lent need ≡ pass
+unfolding check andThen
+nine-headed bytes lent need place e = go (checkHeader bytes lent need) refl _ e
+  where
+    go : (a : Answer (Unit {0})) → checkHeader bytes lent need ≡ a → (g : Unit {0} → Answer (ℕ × ℕ)) → andThen a g ≡ refusal 9 place → checkHeader bytes lent need ≡ pass
+    go (value v) q g e = q
+    go (refusal r p) q g e = let i : r ≡ 9 = cc in absurd (header-refuses bytes lent need r p q .0 i)

@@ -26,7 +26,7 @@ unfoldable pub someBelow : (ℕ → Bool) → ℕ → Bool
 someBelow P zero = false
 someBelow P (suc m) = someBelow P m || P m
 
--- what place k (a word) of the work sheet (the caller's scratch memory) is to hold: how many of the 2 ^ h setups of the settings from node k's own down, h of them, are permitted under a plain edge to k
+-- what place k (a word) of the work sheet (the caller's scratch memory) holds after counting: how many of the 2 ^ h setups of the settings from node k's own down, h of them, are permitted under a plain edge to k
 unfoldable pub place : Words → ℕ → ℕ
 place w k = countBelow (plain w k) (2 ^ height w k)
 

@@ -5,6 +5,8 @@ use lib.Dec.{ltb}
 use mathlib.Core.Path.{_≡_}
 use mathlib.Core.List.{List}
 use Rattle.diagram.specs.Format.{Words, highField, middleField, lowField, settings, nodes, root, height, thenEdge, elseEdge}
+use Rattle.diagram.specs.Meaning.{plain}
+use Rattle.diagram.specs.Count.{countBelow}
 use Rattle.diagram.specs.Ordered.{HasDiagram}
 
 -- the three fields of word v
@@ -40,9 +42,9 @@ unfoldable pub opposite : ℕ → ℕ → ℕ → ℕ
 opposite zero m c = c
 opposite (suc f) m c = m - c
 
--- an edge with flag f from height H to a node of height h and count c: under a flag the opposite, and 2 ^ (H - h) times over the gap
-unfoldable pub edgeCount : ℕ → ℕ → ℕ → ℕ → ℕ
-edgeCount f h H c = 2 ^ (H - h) * opposite f (2 ^ h) c
+-- a node's share of 2 ^ 63: how many setups of 63 settings are permitted under a plain edge to node k
+unfoldable pub share : Words → ℕ → ℕ
+share w k = countBelow (plain w k) (2 ^ 63)
 
 -- edge e, or its complement if f is set
 unfoldable pub turn : ℕ → ℕ → ℕ

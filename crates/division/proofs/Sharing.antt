@@ -28,10 +28,10 @@ module _ (k j : ℕ) where
   none-index n l = rw (ne-eqb k 0 n, le-ltb 65535 k l)
 
   -- where it does not hold, there is a part j of k
-  pub some-part : (b : Bool) → b ≡ noPart k j → b ≡ false → (0 < k) × (k ≤ 65535) × (j < k)
+  pub some-part : noPart k j ≡ false → (0 < k) × (k ≤ 65535) × (j < k)
   unfolding noPart
-  some-part b b-is passes =
-      let a = or-false (eqb k 0 || ltb 65535 k) (leb k j) (sym b-is ∙ passes) in
+  some-part passes =
+      let a = or-false (eqb k 0 || ltb 65535 k) (leb k j) passes in
       let d = or-false (eqb k 0) (ltb 65535 k) (a .0) in
       let z : k ≡ 0 → ⊥ = eqb-false k 0 (d .0) in
       (omega arith, ltb-false 65535 k (d .1), leb-false k j (a .1))
@@ -66,9 +66,14 @@ module _ (c k j s t : ℕ) (s-is : s ≡ start c k j) (t-is : t ≡ start c k (j
   pub rises : s ≤ t
   rises = omega (arith, start-mono c k j (j + 1) (omega arith))
 
-  pub span-is : (b : Bool) → b ≡ noPart k j → b ≡ false → value (s, t - s) ≡ spanOf k j c
-  unfolding spanOf size
-  span-is b b-is passes = rw (← b-is, passes, s-is, t-is)
+  pub size-is : t - s ≡ size c k j
+  unfolding size
+  size-is = rw (s-is, t-is)
+
+-- its start and its size, where there is such a part of C setups, are answered
+pub span-is : (k j c C : ℕ) → c ≡ C → (s z : ℕ) → s ≡ start c k j → z ≡ size c k j → noPart k j ≡ false → value (s, z) ≡ spanOf k j C
+unfolding spanOf
+span-is k j c C c-is s z s-is z-is passes = rw (passes, s-is, z-is, c-is)
 
 -- the span by n and the setups that are permitted
 abbrev pub spanBy : ℕ → ℕ → ℕ → (ℕ → Bool) → Answer (ℕ × ℕ)

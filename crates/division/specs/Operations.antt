@@ -1,4 +1,4 @@
--- The span of a part: what is answered. The sheet is left as the check does (`sheetAfter`). Assumes nothing.
+-- The span of a part: what is answered. The sheet is handed back blank (`blank`). Assumes nothing.
 use Prim.Native.Nat.{ℕ}
 use mathlib.Core.Bool.{Bool, cond, _||_}
 use mathlib.Core.List.{List}

@@ -2,7 +2,7 @@
 ghost use mathlib.Core.Path.{_≡_};
 ghost use Prim.Native.Nat.{ℕ, _+_, _*_, _^_};
 ghost use Rattle.diagram.specs.Count.{indicator};
-ghost use Rattle.checking.specs.Operations.{checking, counting, testing, sheetAfter};
+ghost use Rattle.checking.specs.Operations.{checking, counting, testing, blank, counts};
 ghost use Rattle.division.specs.Operations.{spanning};
 ghost use Rattle.rules.specs.Packed.{packed};
 use checking::Checked;
@@ -15,7 +15,7 @@ use division::Spanned;
 #[no_mangle]
 pub extern "C" fn setupbook_check(table: &[u8], sheet: &mut [u8]) -> u64
     ensures { λ r. ⌜ (r ≡ packed (λ v. 2 ^ 32 * v .0 + v .1) (checking (now (table .entry)) (now (sheet .entry))))
-        × (now (sheet .exit) ≡ sheetAfter (now (table .entry)) (now (sheet .entry))) ⌝ }
+        × (now (sheet .exit) ≡ blank (now (table .entry)) (now (sheet .entry))) ⌝ }
 {
     let checked = checking::check(table, sheet);
     match checked {
@@ -28,7 +28,7 @@ pub extern "C" fn setupbook_check(table: &[u8], sheet: &mut [u8]) -> u64
 #[no_mangle]
 pub extern "C" fn setupbook_count(table: &[u8], sheet: &mut [u8]) -> u64
     ensures { λ r. ⌜ (r ≡ packed (λ (c : ℕ). c) (counting (now (table .entry)) (now (sheet .entry))))
-        × (now (sheet .exit) ≡ sheetAfter (now (table .entry)) (now (sheet .entry))) ⌝ }
+        × (now (sheet .exit) ≡ counts (now (table .entry)) (now (sheet .entry))) ⌝ }
 {
     let counted = checking::count(table, sheet);
     match counted {
@@ -41,7 +41,7 @@ pub extern "C" fn setupbook_count(table: &[u8], sheet: &mut [u8]) -> u64
 #[no_mangle]
 pub extern "C" fn setupbook_test(table: &[u8], setup: u64, sheet: &mut [u8]) -> u64
     ensures { λ r. ⌜ (r ≡ packed indicator (testing (now (table .entry)) setup (now (sheet .entry))))
-        × (now (sheet .exit) ≡ sheetAfter (now (table .entry)) (now (sheet .entry))) ⌝ }
+        × (now (sheet .exit) ≡ blank (now (table .entry)) (now (sheet .entry))) ⌝ }
 {
     let tested = checking::test(table, Setup(setup), sheet);
     match tested {
@@ -54,7 +54,7 @@ pub extern "C" fn setupbook_test(table: &[u8], setup: u64, sheet: &mut [u8]) -> 
 #[no_mangle]
 pub extern "C" fn setupbook_span_start(table: &[u8], k: u64, j: u64, sheet: &mut [u8]) -> u64
     ensures { λ r. ⌜ (r ≡ packed (λ v. v .0) (spanning (now (table .entry)) k j (now (sheet .entry))))
-        × (now (sheet .exit) ≡ sheetAfter (now (table .entry)) (now (sheet .entry))) ⌝ }
+        × (now (sheet .exit) ≡ blank (now (table .entry)) (now (sheet .entry))) ⌝ }
 {
     let spanned = division::span(table, k, j, sheet);
     match spanned {
@@ -67,7 +67,7 @@ pub extern "C" fn setupbook_span_start(table: &[u8], k: u64, j: u64, sheet: &mut
 #[no_mangle]
 pub extern "C" fn setupbook_span_size(table: &[u8], k: u64, j: u64, sheet: &mut [u8]) -> u64
     ensures { λ r. ⌜ (r ≡ packed (λ v. v .1) (spanning (now (table .entry)) k j (now (sheet .entry))))
-        × (now (sheet .exit) ≡ sheetAfter (now (table .entry)) (now (sheet .entry))) ⌝ }
+        × (now (sheet .exit) ≡ blank (now (table .entry)) (now (sheet .entry))) ⌝ }
 {
     let spanned = division::span(table, k, j, sheet);
     match spanned {

@@ -5,3 +5,4 @@ pub mod Keeping
 pub mod Resuming
 pub mod Serving
 pub mod Alone
+pub mod Handing

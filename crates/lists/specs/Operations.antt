@@ -1,4 +1,4 @@
--- Unranking a list of numbers: what is answered, and what stands in the list of setups afterwards. The sheet is left as the check does (`sheetAfter`). Assumes nothing.
+-- Unranking a list of numbers: what is answered, and what stands in the list of setups afterwards. The sheet is handed back blank (`blank`). Assumes nothing.
 use Prim.Native.Nat.{ℕ, _+_, _-_, _/_}
 use mathlib.Core.Bool.{Bool, cond}
 use mathlib.Core.List.{List}

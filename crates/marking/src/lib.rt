@@ -40,7 +40,7 @@ pub fn mark(table: &[u8], more: &[u64; 128], map: &mut [u8], n: usize, nodes: us
 {
     let top = root.node().0;
     let mut v = nodes + n + n;
-    counting::blank(map, v + 1);
+    words::blank(map, v + 1);
     mark_two(map, Node(0), Node(top));
     while 0 < v {
         mark_below(table, more, map, n, nodes, Node(v));

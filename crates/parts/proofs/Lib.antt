@@ -5,4 +5,3 @@ pub mod Extents
 pub mod Ends
 pub mod Lending
 pub mod Bounds
-pub mod Exact

@@ -28,7 +28,7 @@ use Rattle.parts.specs.Division.{due}
 
 -- the promise, with the answer as it is defined
 pub as-defined : {t : List ℕ} {k j : ℕ} {s out : List ℕ} {a : Answer ℕ} {s′ out′ : List ℕ} → Promise t k j s out a s′ out′ → Promise t k j s out (lengthOf (partWriting t k j s (length out))) s′ out′
-as-defined p = record { answers = refl; writes = p .writes; leaves = p .leaves; same-length = p .same-length }
+as-defined p = record { answers = refl; writes = p .writes; leaves = p .leaves }
 
 -- an answer in bytes, taken apart
 pub answer-value : (a : Answer (List ℕ)) (m : ℕ) → lengthOf a ≡ value m → (bytes : List ℕ) × (a ≡ value bytes) × (length bytes ≡ m)

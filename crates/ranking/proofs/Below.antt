@@ -16,7 +16,7 @@ use Rattle.diagram.proofs.Inside.{within-room, within-low}
 use Rattle.diagram.proofs.Counts.{below-edge}
 use Rattle.counting.specs.Inner.{Filled, Opens}
 use Rattle.counting.proofs.Places.{one-shl, shl-pos}
-use Rattle.counting.proofs.Under.{filled-below}
+use Rattle.counting.proofs.Shares.{filled-below}
 use Rattle.ranking.specs.Inner.{IsStep}
 
 -- a sink has no setting, so no setup is below

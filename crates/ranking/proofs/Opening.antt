@@ -11,7 +11,7 @@ use Rattle.diagram.specs.Reading.{Within, cofactor}
 use Rattle.diagram.proofs.Cofactor.{no-sink, cofactor-low}
 use Rattle.diagram.proofs.Inside.{within-room}
 use Rattle.counting.specs.Inner.{Opens}
-use Rattle.counting.proofs.Under.{filled-below}
+use Rattle.counting.proofs.Shares.{filled-below}
 
 -- a node as high as the setting asked for is not the sink, and has its record
 pub high-node : (t : List ℕ) (e h v g : ℕ) → Within t (e / 2) → 0 < h → v ≡ e / 2 → g ≡ height (wordAt t) v → h ≤ g → (0 < v) × (8 * v + 8 ≤ length t)

@@ -15,7 +15,7 @@ use Rattle.diagram.proofs.Inside.{inside-tall, high-lower, low-lower}
 use Rattle.diagram.proofs.Counts.{below-else, below-then}
 use Rattle.counting.specs.Inner.{Filled, Opens}
 use Rattle.counting.proofs.Places.{one-shl}
-use Rattle.counting.proofs.Under.{filled-below}
+use Rattle.counting.proofs.Shares.{filled-below}
 use Rattle.ranking.specs.Inner.{IsStep}
 
 module _ (t s : List ℕ) (k y h a b : ℕ) (p : 0 < k) (F : Filled t s k) (l : y < 2 ^ height (wordAt t) k) (r : IsRecord (wordAt t) k h a b) where

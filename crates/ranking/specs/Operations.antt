@@ -1,4 +1,4 @@
--- Ranking and unranking: what each answers. Both leave the sheet as the check does (`sheetAfter`). Assumes nothing.
+-- Ranking and unranking: what each answers. Both hand the sheet back blank (`blank`). Assumes nothing.
 use Prim.Native.Nat.{ℕ, _^_}
 use mathlib.Core.Bool.{Bool, cond}
 use mathlib.Core.List.{List}

@@ -41,7 +41,7 @@ pub fn look_below(table: &[u8], sheet: &[u8], e: Edge, h: u64) -> Below
     ensures { λ r. ⌜ IsBelow (wordAt (now (table .entry))) (e .value) h (r .height) (r .count) ⌝ }
 {
     let height = diagram::height_at(table, e.node());
-    let count = counting::count_edge(sheet, e, height, h);
+    let count = counting::count_under(sheet, e, h);
     Below { height, count }
 }
 

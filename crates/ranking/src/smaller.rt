@@ -37,7 +37,7 @@ fn step_from(table: &[u8], sheet: &[u8], k: Node, y: Setup) -> Step
         };
     }
     let edge = record.high;
-    let passed = counting::count_under(table, sheet, low, h);
+    let passed = counting::count_under(sheet, low, h);
     Step {
         edge,
         passed,
@@ -68,7 +68,7 @@ fn rank_at(table: &[u8], sheet: &[u8], k: Node, y: Setup) -> Rank
     let step = step_from(table, sheet, k, y);
     let node = step.edge.node();
     let g = diagram::height_at(table, node);
-    let block = counting::count_under(table, sheet, step.edge, g);
+    let block = counting::count_under(sheet, step.edge, g);
     let inside = rank_at(table, sheet, node, Setup(step.rest.0 % (1 << g)));
     Rank(step.passed + across_gap(step.edge, g, block, step.rest, inside).0)
 }
@@ -80,7 +80,7 @@ pub fn rank_under(table: &[u8], sheet: &[u8], e: Edge, x: Setup) -> Rank
 {
     let node = e.node();
     let g = diagram::height_at(table, node);
-    let block = counting::count_under(table, sheet, e, g);
+    let block = counting::count_under(sheet, e, g);
     let inside = rank_at(table, sheet, node, Setup(x.0 % (1 << g)));
     across_gap(e, g, block, x, inside)
 }

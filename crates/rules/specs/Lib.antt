@@ -1,4 +1,3 @@
 -- Refusals, and the packed form of an answer.
 pub mod Refusals
 pub mod Packed
-pub mod Inner

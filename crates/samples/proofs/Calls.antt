@@ -2,7 +2,6 @@
 use Prim.Native.Nat.{ℕ}
 use mathlib.Core.Path.{_≡_, refl, sym, ap, _∙_}
 use mathlib.Core.List.{List, List·Memᴰ, List·Memᴰ·head, List·Memᴰ·tail}
-use native.Mathlib.Omega.{arith}
 use lib.Dec.{lit<, lit≤}
 use lib.ListN.{length}
 use Rattle.words.specs.Words.{bytesOf}
@@ -10,8 +9,7 @@ use Rattle.words.proofs.Laws.{length-bytesOf}
 use Rattle.diagram.specs.Answer.{Answer, value, refusal}
 use Rattle.tables.specs.Writing.{lengthOf, outAfter}
 use Rattle.tables.proofs.WritingLaws.{front-written}
-use Rattle.checking.proofs.Compose.{sheet-length}
-use Rattle.parts.specs.Operations.{needed, partWriting}
+use Rattle.parts.specs.Operations.{partWriting}
 use Rattle.parts.specs.Calls.{Call, Kept, Wrote}
 use Rattle.parts.specs.Division.{Division}
 use Rattle.parts.proofs.Dividing.{division}
@@ -24,7 +22,7 @@ call-kept : (j m b : ℕ) (came : Answer (List ℕ)) → partWriting A 2 j (shee
 unfolding call
 call-kept j m b came e =
     let f : partWriting A 2 j (sheet m) (length (bytesOf b 0)) ≡ came = ap (partWriting A 2 j (sheet m)) (length-bytesOf b 0) ∙ e in
-    record { answers = ap lengthOf (sym f); writes = ap (λ a. outAfter a (bytesOf b 0)) (sym f); leaves = refl; same-length = sheet-length needed (λ N. omega arith) A (sheet m) }
+    record { answers = ap lengthOf (sym f); writes = ap (λ a. outAfter a (bytesOf b 0)) (sym f); leaves = refl }
 
 -- each call of the list
 pub calls-kept : (c : Call) → List·Memᴰ c calls → Kept A 2 c

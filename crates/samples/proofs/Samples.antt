@@ -1,15 +1,14 @@
 -- The samples hold, all of the list: by computing, but for 2 ^ 63 setups, which the law of the root edge counts. Assumes nothing.
-use mathlib.Core.Path.{_≡_, refl, ap}
+use mathlib.Core.Path.{_≡_, refl, ap, _∙_}
 use lib.Dec.{lit≤}
 use Rattle.words.specs.Words.{beAt, wordAt, bytesOf}
 use Rattle.diagram.specs.Format.{highField, middleField, lowField, settings, nodes, root, height, thenEdge, elseEdge}
 use Rattle.diagram.specs.Meaning.{bit, branch, flip, holds, plain, under, permitted}
 use Rattle.diagram.specs.Count.{indicator, countBelow, select, someBelow, place, total}
-use Rattle.diagram.specs.Reading.{opposite, edgeCount}
+use Rattle.diagram.specs.Reading.{opposite}
 use Rattle.diagram.specs.Answer.{value, andThen, each}
 use Rattle.diagram.specs.Rules.{misled, checkRecord, names, named, checkNamed, checkHeader, checkRecords, checkNames, checkDiagram, check}
-use Rattle.diagram.proofs.Counts.{total-root}
-use Rattle.diagram.proofs.Accept.{accepts-accepted}
+use Rattle.diagram.proofs.Counts.{share-edge, share-sink}
 use Rattle.checking.specs.Operations.{checkingFor, counting, testSetup}
 use Rattle.ranking.specs.Operations.{rankSetup, ranking, orTooHigh, unrankSetup, unranking}
 use Rattle.division.specs.Span.{size, start}
@@ -18,10 +17,8 @@ use Rattle.samples.specs.Samples.{table, A, A′, full, single, empty, m
 use Rattle.samples.proofs.PartsOfA.{part-0, part-1}
 
 full-total : total (wordAt full) ≡ 9223372036854775808
-unfolding full table settings nodes root wordAt beAt bytesOf highField middleField lowField check checkHeader checkDiagram checkRecords checkNames each andThen height opposite edgeCount place countBelow plain holds indicator
-full-total =
-    let D = accepts-accepted full 63 0 refl .proper .reduced .ordered in
-    total-root (wordAt full) 63 0 D (lit≤ tt) refl
+unfolding full table settings root wordAt beAt bytesOf highField lowField opposite total permitted
+full-total = share-edge (wordAt full) 0 ∙ share-sink (wordAt full)
 
 full-count : counting full (sheet 1) ≡ value 9223372036854775808
 unfolding full table sheet counting checkingFor settings nodes root wordAt beAt bytesOf highField middleField lowField check checkHeader checkDiagram checkRecords checkNames each andThen

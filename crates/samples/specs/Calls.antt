@@ -3,7 +3,7 @@ use Prim.Native.Nat.{ℕ}
 use mathlib.Core.List.{List, [], _∷_}
 use Rattle.words.specs.Words.{bytesOf}
 use Rattle.diagram.specs.Answer.{Answer, value, refusal}
-use Rattle.checking.specs.Operations.{sheetAfterFor}
+use Rattle.checking.specs.Operations.{blankFor}
 use Rattle.tables.specs.Writing.{lengthOf, outAfter}
 use Rattle.parts.specs.Operations.{needed}
 use Rattle.parts.specs.Calls.{Call}
@@ -16,7 +16,7 @@ call j m b came = record {
   sheet = sheet m;
   out = bytesOf b 0;
   answer = lengthOf came;
-  sheet-after = sheetAfterFor needed A (sheet m);
+  sheet-after = blankFor needed A (sheet m);
   out-after = outAfter came (bytesOf b 0);
 }
 

@@ -2,3 +2,4 @@
 pub mod Samples
 pub mod Calls
 pub mod Lists
+pub mod Sheets

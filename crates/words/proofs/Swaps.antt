@@ -95,3 +95,8 @@ swap-swap v l =
     (unfold swap in omega arith) (byte _) (byte _) (byte _) (byte _) (byte _) (byte _) (byte _) (byte _)
     ∙ expand v (v / 256) (v / 65536) (v / 16777216) (v / 4294967296) (v / 1099511627776) (v / 281474976710656) _ _ _ _ _ _ _ _
     (omega arith) (omega arith) (omega arith) (omega arith) (omega arith) (omega arith) (omega arith)
+
+-- a number turned over fits, too
+pub swap-fits : (v : ℕ) → swap v < 18446744073709551616
+unfolding swap
+swap-fits v = omega arith

@@ -1,9 +1,9 @@
 // Words of 64 bits in a slice of bytes, most significant byte first: a read is one load and a byte swap, a write a byte swap and one store.
-// The load and the store have functions of their own, least significant byte first: the compiler makes one access of each.
+// The load and the store have functions of their own, least significant byte first: the compiler makes one access of each. Numbers that nobody else reads are left in that order.
 ghost use mathlib.Core.Path.{_≡_};
 ghost use Prim.Native.Nat.{_+_, _*_, _≤_};
 ghost use lib.ListN.{length};
-ghost use Rattle.words.specs.Words.{wordAt, putWord};
+ghost use Rattle.words.specs.Words.{wordAt, putWord, wordsOver};
 ghost use Rattle.words.specs.Swap.{swap};
 
 // The number of eight bytes, least significant first.
@@ -21,7 +21,7 @@ fn little_of(a: u8, b: u8, c: u8, d: u8, e: u8, f: u8, g: u8, h: u8) -> u64
 }
 
 // The eight bytes of word k, least significant first.
-fn load(bytes: &[u8], k: usize) -> u64
+pub fn load(bytes: &[u8], k: usize) -> u64
     requires { ⌜ 8 * k + 8 ≤ length (now bytes) ⌝ }
     ensures { λ r. ⌜ swap r ≡ wordAt (now (bytes .entry)) k ⌝ }
 {
@@ -39,7 +39,7 @@ fn load(bytes: &[u8], k: usize) -> u64
 }
 
 // Stores v as word k, least significant byte first.
-fn store(bytes: &mut [u8], k: usize, v: u64)
+pub fn store(bytes: &mut [u8], k: usize, v: u64)
     requires { ⌜ 8 * k + 8 ≤ length (now bytes) ⌝ }
     ensures { λ _. ⌜ now (bytes .exit) ≡ putWord (now (bytes .entry)) k (swap v) ⌝ }
 {
@@ -82,4 +82,16 @@ pub fn put_word(bytes: &mut [u8], k: usize, v: u64)
     ensures { λ _. ⌜ now (bytes .exit) ≡ putWord (now (bytes .entry)) k v ⌝ }
 {
     store(bytes, k, swapped(v));
+}
+
+// Stores 0 as words 0 to m - 1.
+pub fn blank(bytes: &mut [u8], m: usize)
+    requires { ⌜ 8 * m ≤ length (now bytes) ⌝ }
+    ensures { λ _. ⌜ now (bytes .exit) ≡ wordsOver (λ _. 0) m (now (bytes .entry)) ⌝ }
+{
+    let mut k = 0;
+    while k < m {
+        put_word(bytes, k, 0);
+        k += 1;
+    }
 }

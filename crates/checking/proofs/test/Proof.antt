@@ -1,9 +1,11 @@
--- `checking::test` meets its contract: the check, then `test_setup` from the root edge. Assumes nothing.
-use mathlib.Core.Path.{sym, subst}
+-- `checking::test` meets its contract: as every operation begins, then `test_setup` from the root edge. Assumes nothing.
+use mathlib.Core.Path.{refl, sym, subst}
+use native.Mathlib.Omega.{arith}
 use borrow.Author.Needs.{needs}
 use Rattle.checking.specs.Inner.{IsRefused}
-use Rattle.checking.proofs.Accepting.{enough, handed-on, table-long, root-within, answered}
 use Rattle.checking.specs.Operations.{testSetup, testing}
+use Rattle.checking.proofs.Accepting.{handed-on, table-long, table-holds, root-within, answered}
+use Rattle.checking.proofs.Lending.{handed-back, places-left, blanked}
 use Rattle.checking.proofs.test.Statement.{statement}
 use Rattle.checking.proofs.test.Tie as tie
 
@@ -13,26 +15,41 @@ refusal-of-requires c κs = subst IsRefused (sym (c .enum-told2 .given .1)) tt
 returns : tie.Need-returns
 unfolding testing
 returns c =
-    let a = c .before .before .before .before .before in
-    (handed-on _ enough _ _ _ (a .check .result) (a .check .ensures) _ _ _ (c .refusal-of .ensures), a .check .ensures .1)
+    let told = c .before in
+    let B = told .before .before .before .before .begin .ensures in
+    (handed-on B _ _ _ (c .refusal-of .ensures), handed-back B (told .enum-told2 .given .1))
 
 header-of-requires : tie.Need-header-of-requires
-header-of-requires c κs = table-long _ enough _ _ _ _ (c .before .before .before .before .check .ensures) _ (c .enum-told .given .1)
+header-of-requires c κs = table-long (c .before .before .before .before .begin .ensures) (c .enum-told .given .1)
+
+-- from where the header is read: how the operation began
+abbrev begun : tie.After-header-of → tie.After-begin
+begun c = c .before .before .before .before .before
+
+add-blank : tie.Need-add-blank
+add-blank c = let a = c .before .before in record { fits = omega (arith, table-holds (begun a .begin .ensures) (a .before .enum-told .given .1) (a .header-of .ensures) .few) }
+
+blank-requires : tie.Need-blank-requires
+blank-requires c κs = let a = c .before .before in omega (arith, places-left (begun a .begin .ensures) (a .before .enum-told .given .1) (a .header-of .ensures .nodes-is))
 
 test-setup-requires : tie.Need-test-setup-requires
 test-setup-requires c κs =
-    let h = c .header-of .ensures in
-    (root-within _ enough _ _ _ _ (c .before .before .before .before .before .check .ensures) _ (c .before .enum-told .given .1) _ _ _ h, h .few-settings)
+    let a = c .before .before .before .before .before in
+    let h = a .header-of .ensures in
+    (root-within (begun a .begin .ensures) (a .before .enum-told .given .1) h, h .few-settings)
 
 returns-2 : tie.Need-returns-2
 unfolding testing
 returns-2 c =
-    let a = c .before in
-    let is = a .before .before .before .before .before .check .ensures in
-    (answered _ enough _ _ _ _ is _ (a .before .enum-told .given .1) _ _ _ (a .header-of .ensures) (testSetup _) _ (c .test-setup .ensures), is .1)
+    let blank = c .before .before .before in
+    let a = blank .before .before .before in
+    let B = begun a .begin .ensures in
+    let q = a .before .enum-told .given .1 in
+    let h = a .header-of .ensures in
+    (answered B q h (testSetup _) _ (c .test-setup .ensures), blanked B q (h .nodes-is) _ _ refl (blank .blank .ensures))
 
 pub test-spec : {M : Type 1} → statement M
 test-spec =
     tie.close
     (tie.spec (λ c κs. search needs) (λ c. search needs) (λ c. search needs) refusal-of-requires (λ c. search needs) returns
-    header-of-requires test-setup-requires (λ c. search needs) returns-2)
+    header-of-requires add-blank blank-requires test-setup-requires (λ c. search needs) returns-2)

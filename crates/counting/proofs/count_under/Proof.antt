@@ -1,18 +1,18 @@
--- `counting::count_under` meets its contract. Assumes nothing.
+-- `counting::count_under` meets its contract: the edge's share, shifted. Assumes nothing.
+use native.Mathlib.Omega.{arith}
 use borrow.Author.Needs.{needs}
-use Rattle.diagram.proofs.Inside.{within-room}
-use Rattle.counting.proofs.Under.{under-countable, under-counted}
+use Rattle.counting.proofs.Shares.{opened, counts-under}
 use Rattle.counting.proofs.count_under.Statement.{statement}
 use Rattle.counting.proofs.count_under.Tie as tie
 
-height-at-requires : tie.Need-height-at-requires
-height-at-requires c κs = let a = c .before .before .before in rw (c .node .ensures) (within-room _ _ (a .pre .filled .within))
+share-of-requires : tie.Need-share-of-requires
+share-of-requires c κs = opened _ _ _ (c .before .pre)
 
-count-edge-requires : tie.Need-count-edge-requires
-count-edge-requires c κs = let p = c .before .before .before .before .pre in under-countable _ _ _ _ _ _ p (c .before .node .ensures) (c .height-at .ensures .0)
+sub-result : tie.Need-sub-result
+sub-result c = omega (arith, c .before .before .pre .1 .few)
 
 returns : tie.Need-returns
-returns c = let p = c .before .before .before .before .before .pre in under-counted _ _ _ _ _ _ p (c .before .before .node .ensures) (c .before .height-at .ensures .0) _ (c .count-edge .ensures)
+returns c = counts-under _ _ _ _ (c .share-of .ensures)
 
 pub count-under-spec : {M : Type 1} → statement M
-count-under-spec = tie.close (tie.spec (λ c κs. search needs) height-at-requires count-edge-requires returns)
+count-under-spec = tie.close (tie.spec share-of-requires sub-result (λ c. search needs) returns)

@@ -24,7 +24,7 @@ array-write-edges : tie.Need-array-write-edges Inv-loop μ-loop
 array-write-edges c = let l = c .before .before .before .before .pre .0 .few in omega arith
 
 count-under-requires : tie.Need-count-under-requires Inv-loop μ-loop
-count-under-requires c κs = c .before .before .before .before .pre .0
+count-under-requires c κs = (_, c .before .before .before .before .pre .0)
 
 mul-ends : tie.Need-mul-ends Inv-loop μ-loop
 mul-ends c = let l = c .before .before .before .before .before .pre .0 .few in record { fits = omega arith }
@@ -41,7 +41,7 @@ entry c = c .before .before .before .before .before .before
 
 served : (c : tie.At-loop Inv-loop μ-loop) → let a = entry c .args in
     Serves (a .table .now) (a .sheet .now) (a .ranks .now) (a .n) (a .root .value) (a .m) (a .setups .now) (c .loop .i) (c .loop .setups) (c .loop .edges) (c .loop .ends) (c .loop .x .0)
-served c = c .loop .inv .1 _ (trail-first _ _ _ _ _ (entry c .pre .0) (c .before .count-under .ensures))
+served c = c .loop .inv .1 _ (trail-first _ _ _ _ _ (entry c .pre .0) (c .before .count-under .ensures _ (entry c .pre .0)))
 
 long : (c : tie.At-loop Inv-loop μ-loop) → length (c .loop .setups) ≡ length (entry c .args .setups .now)
 long c = serves-long _ _ _ _ _ _ _ _ _ _ _ _ (served c) (entry c .pre .2) (c .loop .inv .0)

@@ -6,7 +6,7 @@ use Rattle.words.specs.Words.{wordAt}
 use Rattle.diagram.specs.Meaning.{under}
 use Rattle.diagram.proofs.Select.{select-some}
 use Rattle.parts.proofs.Ends.{extent-fits, none-written, some-written}
-use Rattle.parts.proofs.Lending.{lent-room, firm-kept}
+use Rattle.parts.proofs.Lending.{lent-room, lent-past}
 use Rattle.parts.proofs.write_extent.Statement.{statement}
 use Rattle.parts.proofs.write_extent.Tie as tie
 
@@ -16,7 +16,7 @@ returns c = (none-written _ _ _ _ (c .before .before .before .before .if1 .taken
 add-last : tie.Need-add-last
 add-last c =
     let b = c .before .before .before .before .before .before in
-    let l = extent-fits (b .args .n) (under (wordAt (b .args .table .now)) (b .args .root .value)) (b .args .extent .start .0) (b .args .extent .size) (b .pre .0 .few) (b .pre .6) in
+    let l = extent-fits (b .args .n) (under (wordAt (b .args .table .now)) (b .args .root .value)) (b .args .extent .start .0) (b .args .extent .size) (b .pre .1 .few) (b .pre .3) in
     record { fits = omega (arith, l, c .before .if1 .left) }
 
 part-write-between-end : tie.Need-part-write-between-end
@@ -25,9 +25,9 @@ part-write-between-end c = search needs
 write-between-requires : tie.Need-write-between-requires
 write-between-requires c κs =
     let p = c .before .before .before .before .before .before .before .before .before .before .before .before .pre in (
-      lent-room _ _ _ (p .5) _ _ _ (omega (arith, p .0 .few)) (p .4) (p .0 .few) (p .3),
-      p .1,
-      p .2,
+      lent-room _ _ _ (p .2) _ _ _ (omega (arith, p .1 .few)) (p .0 .holds .long) (p .1 .few) (p .0 .holds .few),
+      p .0 .reduced,
+      p .0 .inside,
       select-some _ _ _ _ (c .before .before .before .before .descend .ensures) .below,
       select-some _ _ _ _ (c .before .before .descend2 .ensures) .below,
     )
@@ -41,7 +41,7 @@ returns-2 c =
     let b = if1 .before .before .before .before .before in
     let w = write-between .write-between in (
       some-written _ _ _ _ _ _ (if1 .if1 .left) (descend .descend .ensures) (descend2 .descend2 .ensures) (w .ensures),
-      firm-kept _ _ (b .pre .5) (w .last .1 .0) (w .kept .1 .0),
+      lent-past _ _ (b .pre .2) (w .last .1 .0) (w .kept .1 .0),
     )
 
 pub write-extent-spec : {M : Type 1} → statement M

@@ -38,7 +38,7 @@ pub +rank-at-spec : {M : Type 1} → statement M
     (λ c κs.
     let a = c .before .before in
     let p = a .before .before .before .before .before .pre .1 in
-    edge-opens _ _ _ _ 0 (step-filled _ _ _ _ _ _ _ (p .0) (a .step-from .ensures)) (c .before .node .ensures) _ (c .height-at .ensures .0))
+    (_, edge-opens _ _ _ _ 0 (step-filled _ _ _ _ _ _ _ (p .0) (a .step-from .ensures)) (c .before .node .ensures) _ (c .height-at .ensures .0)))
     (λ c. search needs)
     (λ c.
     let a = c .before .before .before .before in
@@ -55,15 +55,24 @@ pub +rank-at-spec : {M : Type 1} → statement M
     let b = c .before .before in
     let a = b .before .before .before in
     let p = a .before .before .before .before .before .pre .1 in
-    gap-opens _ _ _ _ _ (step-filled _ _ _ _ _ _ _ (p .0) (a .step-from .ensures)) (b .before .before .node .ensures) _ (b .before .height-at .ensures .0) _ _ (b .count-under .ensures) (c .rank-at .ensures))
+    let F = step-filled _ _ _ _ _ _ _ (p .0) (a .step-from .ensures) in
+    let v = b .before .before .node .ensures in
+    let h = b .before .height-at .ensures .0 in
+    gap-opens _ _ _ _ _ F v _ h _ _ (b .count-under .ensures _ (edge-opens _ _ _ _ 0 F v _ h)) (c .rank-at .ensures))
     -- the sum
     (λ c.
     let b = c .before .before .before .before .before in
     let a = b .before .before .before in
     let p = a .before .before .before .before .before .pre .1 in
-    record { fits = node-sum _ _ _ _ _ _ _ (p .0) (a .step-from .ensures) _ _ _ _ _ (b .before .before .node .ensures) (b .before .height-at .ensures .0) (b .count-under .ensures) (c .before .before .before .rank-at .ensures) (c .before .before .across-gap .ensures) (p .1) .1 })
+    let v = b .before .before .node .ensures in
+    let h = b .before .height-at .ensures .0 in
+    let block = b .count-under .ensures _ (edge-opens _ _ _ _ 0 (step-filled _ _ _ _ _ _ _ (p .0) (a .step-from .ensures)) v _ h) in
+    record { fits = node-sum _ _ _ _ _ _ _ (p .0) (a .step-from .ensures) _ _ _ _ _ v h block (c .before .before .before .rank-at .ensures) (c .before .before .across-gap .ensures) (p .1) .1 })
     (λ c.
     let b = c .before .before .before .before .before in
     let a = b .before .before .before in
     let p = a .before .before .before .before .before .pre .1 in
-    node-sum _ _ _ _ _ _ _ (p .0) (a .step-from .ensures) _ _ _ _ _ (b .before .before .node .ensures) (b .before .height-at .ensures .0) (b .count-under .ensures) (c .before .before .before .rank-at .ensures) (c .before .before .across-gap .ensures) (p .1) .0))
+    let v = b .before .before .node .ensures in
+    let h = b .before .height-at .ensures .0 in
+    let block = b .count-under .ensures _ (edge-opens _ _ _ _ 0 (step-filled _ _ _ _ _ _ _ (p .0) (a .step-from .ensures)) v _ h) in
+    node-sum _ _ _ _ _ _ _ (p .0) (a .step-from .ensures) _ _ _ _ _ v h block (c .before .before .before .rank-at .ensures) (c .before .before .across-gap .ensures) (p .1) .0))

@@ -1,0 +1,2 @@
+-- What the functions that check the records know.
+pub mod Inner
