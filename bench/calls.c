@@ -7,9 +7,10 @@
 #define S uint8_t *sheet, size_t sheet_len
 #define O uint8_t *out, size_t out_len
 uint64_t setupbook_check(T, S), setupbook_count(T, S), setupbook_test(T, uint64_t setup, S);
+uint64_t setupbook_span_size(T, uint64_t k, uint64_t j, S);
 uint64_t plain_check(T, S), plain_count(T, S), plain_test(T, uint64_t setup, S);
 uint64_t plain_rank(T, uint64_t setup, S), plain_unrank(T, uint64_t rank, S);
-uint64_t plain_part_write(T, uint64_t k, uint64_t j, S, O);
+uint64_t plain_span_size(T, uint64_t k, uint64_t j, S), plain_part_write(T, uint64_t k, uint64_t j, S, O);
 uint64_t plain_unrank_list(T, const uint8_t *ranks, size_t ranks_len, S, O, uint64_t answer[3]);
 #undef T
 #undef S
@@ -17,14 +18,19 @@ uint64_t plain_unrank_list(T, const uint8_t *ranks, size_t ranks_len, S, O, uint
 
 const char *operation_name(enum operation op)
 {
-    static const char *const names[] = {"check",  "count",      "test",        "rank",
-                                        "unrank", "part-write", "list spread", "list in a row"};
+    static const char *const names[] = {"check", "count",      "test",        "rank",         "unrank",
+                                        "span",  "part-write", "list spread", "list in a row"};
     return names[op];
 }
 
 int is_list(enum operation op)
 {
     return op == LIST_SPREAD || op == LIST_ROW;
+}
+
+int is_of_part(enum operation op)
+{
+    return op == SPAN || op == PART_WRITE;
 }
 
 size_t sheet_len_of(enum operation op, uint32_t count)
@@ -40,6 +46,7 @@ static uint64_t ours(enum operation op, const struct lent *m, struct numbers x)
     case TEST: return setupbook_test(m->table, m->table_len, x.a, m->sheet, m->sheet_len);
     case RANK: return setupbook_rank(m->table, m->table_len, x.a, m->sheet, m->sheet_len);
     case UNRANK: return setupbook_unrank(m->table, m->table_len, x.a, m->sheet, m->sheet_len);
+    case SPAN: return setupbook_span_size(m->table, m->table_len, x.a, x.b, m->sheet, m->sheet_len);
     case PART_WRITE:
         return setupbook_part_write(m->table, m->table_len, x.a, x.b, m->sheet, m->sheet_len, m->out, m->out_len);
     default:
@@ -56,6 +63,7 @@ static uint64_t plain(enum operation op, const struct lent *m, struct numbers x)
     case TEST: return plain_test(m->table, m->table_len, x.a, m->sheet, m->sheet_len);
     case RANK: return plain_rank(m->table, m->table_len, x.a, m->sheet, m->sheet_len);
     case UNRANK: return plain_unrank(m->table, m->table_len, x.a, m->sheet, m->sheet_len);
+    case SPAN: return plain_span_size(m->table, m->table_len, x.a, x.b, m->sheet, m->sheet_len);
     case PART_WRITE:
         return plain_part_write(m->table, m->table_len, x.a, x.b, m->sheet, m->sheet_len, m->out, m->out_len);
     default:

@@ -1,4 +1,4 @@
-/* The seven operations by number, of the library ("ours") and of plain.c ("plain C"); unrank-list twice, for
+/* The operations by number, of the library ("ours") and of plain.c ("plain C"): of span the size; unrank-list twice, for
  * two lists. */
 #ifndef CALLS_H
 #define CALLS_H
@@ -6,7 +6,7 @@
 #include <stddef.h>
 #include <stdint.h>
 
-enum operation { CHECK, COUNT, TEST, RANK, UNRANK, PART_WRITE, LIST_SPREAD, LIST_ROW, OPERATIONS };
+enum operation { CHECK, COUNT, TEST, RANK, UNRANK, SPAN, PART_WRITE, LIST_SPREAD, LIST_ROW, OPERATIONS };
 enum side { OURS, PLAIN, SIDES };
 
 #define PARTS 8 /* the division that is timed: part 3 of 8 */
@@ -26,13 +26,15 @@ struct lent {
     uint64_t *answer;
 };
 
-/* The numbers of a call: a setup or a rank in `a`; the number of parts and the part for part-write; none for a list. */
+/* The numbers of a call: a setup or a rank in `a`; the number of parts and the part for span and
+ * part-write; none for a list. */
 struct numbers {
     uint64_t a, b;
 };
 
 const char *operation_name(enum operation op);
 int is_list(enum operation op);
+int is_of_part(enum operation op); /* span or part-write */
 
 /* The sheet for a table of N records: N + 1 places, and 4 N + 512 for part-write. */
 size_t sheet_len_of(enum operation op, uint32_t count);

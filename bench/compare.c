@@ -8,7 +8,7 @@
 #include "memory.h"
 
 #define CALLS 24
-#define DAMAGED 27
+#define DAMAGED 28
 
 /* The memories of the two sides. */
 struct pair {
@@ -33,26 +33,17 @@ static void stop(const struct table *t, enum operation op, struct numbers x, con
     exit(1);
 }
 
-/* Whether the sheet behind place N is the call's own: after a part written, 11 and 16. */
-static int leaves_scratch(enum operation op, uint64_t answer)
-{
-    uint64_t refusal = answer >> 63 ? answer >> 32 & 0x7fffffff : 0;
-    return op == PART_WRITE && (refusal == 0 || refusal == 11 || refusal == 16);
-}
-
 static void compare_call(const struct table *t, struct pair *p, enum operation op, struct numbers x)
 {
     struct lent *a = &p->of[OURS], *b = &p->of[PLAIN];
-    size_t len = a->sheet_len, rest = len;
-    fill(&p->seed, a->sheet, b->sheet, len + GUARD);
+    size_t sheet_room = sheet_len_of(op, t->count) + GUARD;
+    fill(&p->seed, a->sheet, b->sheet, sheet_room);
     fill(&p->seed, a->out, b->out, out_room(t) + GUARD);
     fill(&p->seed, (uint8_t *)a->answer, (uint8_t *)b->answer, ANSWER + GUARD);
     uint64_t ours = call(OURS, op, a, x), plain = call(PLAIN, op, b, x);
     if (ours != plain) stop(t, op, x, "the answers differ");
     if (memcmp(a->answer, b->answer, ANSWER + GUARD)) stop(t, op, x, "the answers' words differ");
-    if (leaves_scratch(op, ours)) rest = 8 * ((size_t)t->count + 1);
-    if (memcmp(a->sheet, b->sheet, rest)) stop(t, op, x, "the sheets differ");
-    if (memcmp(a->sheet + len, b->sheet + len, GUARD)) stop(t, op, x, "bytes behind the sheet differ");
+    if (memcmp(a->sheet, b->sheet, sheet_room)) stop(t, op, x, "the sheets or bytes behind them differ");
     if (memcmp(a->out, b->out, out_room(t) + GUARD)) stop(t, op, x, "the out memories differ");
     if (memcmp(a->table, b->table, a->table_len)) stop(t, op, x, "a table was changed");
     if (memcmp(a->ranks, b->ranks, 8 * ITEMS + GUARD)) stop(t, op, x, "a list was changed");
@@ -66,7 +57,7 @@ static struct numbers numbers_of(enum operation op, const struct table *t, struc
     uint64_t setups[] = {0, all - 1, all, all + 1, all << 1, ~(uint64_t)0};
     uint64_t ranks[] = {0, count - 1, count, count + 1, (uint64_t)1 << 63, ~(uint64_t)0};
     struct numbers parts[] = {{PARTS, PART}, {1, 0}, {8, 4}, {0, 0}, {8, 8}, {65535, 65534}, {65536, 0}, {~(uint64_t)0, 5}};
-    if (op == PART_WRITE) {
+    if (is_of_part(op)) {
         uint64_t k = 1 + r % (i % 2 ? 65535 : 9);
         return i < 8 ? parts[i] : (struct numbers){k, next_random(&p->seed) % k};
     }
@@ -119,18 +110,20 @@ static void change_list(struct pair *p, struct list list)
     }
 }
 
-/* Word k of a table with another bit, with its then-edge flagged, or with its then-edge as its else-edge too. */
+/* Word k of a table with another bit, with its then-edge flagged, with its then-edge as its else-edge too, or with that
+ * one flagged, so that nothing may name the node that the else-edge led to. */
 static void damage_word(uint8_t *table, uint64_t k, uint64_t bit, int kind)
 {
     uint64_t word = word_at(table, k);
     if (kind == 0) word ^= (uint64_t)1 << bit;
     if (kind == 1) word |= (uint64_t)1 << 29;
-    if (kind == 2) word = (word & ~(uint64_t)0x1fffffff) | (word >> 29 & 0x1fffffff);
+    if (kind >= 2) word = (word & ~(uint64_t)0x1fffffff) | (word >> 29 & 0x1fffffff);
+    if (kind == 3) word |= 1;
     put_word(table, k, word);
 }
 
-/* Damage i of DAMAGED: a wrong length, a short sheet or out memory, the header, or a record. */
-static void damage(const struct table *t, struct pair *p, int i)
+/* Damage i of DAMAGED: a wrong length, a short sheet or out memory, the header, a record, or the last one. */
+static void damage(const struct table *t, struct pair *p, enum operation op, int i)
 {
     uint64_t k = next_random(&p->seed) % t->count + 1, bit = next_random(&p->seed) % 64;
     uint64_t out = next_random(&p->seed) % (8 * ((size_t)t->count + 2));
@@ -140,19 +133,24 @@ static void damage(const struct table *t, struct pair *p, int i)
         if (i == 1) m->table_len = 7;
         if (i == 2) m->table_len -= 3;
         if (i == 3) m->table_len -= 8;
-        if (i == 4) m->sheet_len -= 1;
+        if (i == 4) m->sheet_len = sheet_len_of(op, t->count) - 1;
         if (i == 5) m->out_len = 7;
         if (i == 6) m->out_len = out;
-        if (i > 6) damage_word((uint8_t *)m->table, i < 12 ? 0 : k, bit, i < 18 ? 0 : i % 3);
+        if (i > 6 && i < 12) damage_word((uint8_t *)m->table, 0, bit, 0);
+        if (i >= 12 && i < 27) damage_word((uint8_t *)m->table, k, bit, i < 18 ? 0 : i % 3);
+        if (i == 27) damage_word((uint8_t *)m->table, t->count, bit, 3);
     }
 }
 
+/* The table as it was, and memory for the operation: the sheet is just long enough, or up to 23 bytes longer. */
 static void restore(const struct table *t, struct pair *p, enum operation op)
 {
+    uint64_t r = next_random(&p->seed), more = r % 2 ? r / 2 % 24 : 0;
     for (int side = 0; side < SIDES; side++) {
         memcpy((uint8_t *)p->of[side].table, t->bytes, t->len);
         p->of[side].table_len = t->len;
         lend_for(&p->of[side], op, t);
+        p->of[side].sheet_len += more;
     }
 }
 
@@ -169,7 +167,7 @@ unsigned compare(const struct table *t)
         for (int i = 0; i < DAMAGED; i++) {
             restore(t, &p, op);
             struct numbers x = draw_numbers(op, t, &p.of[PLAIN], &p.seed);
-            damage(t, &p, i);
+            damage(t, &p, op, i);
             compare_call(t, &p, op, x);
         }
     }

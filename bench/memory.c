@@ -67,7 +67,7 @@ void give_back(struct lent *m)
 struct numbers draw_numbers(enum operation op, const struct table *t, const struct lent *m, uint64_t *seed)
 {
     uint64_t r = next_random(seed), rank = r % t->total;
-    if (op == PART_WRITE) return (struct numbers){PARTS, PART};
+    if (is_of_part(op)) return (struct numbers){PARTS, PART};
     if (is_list(op)) return (struct numbers){0, 0};
     if (op == UNRANK) return (struct numbers){rank, 0};
     if (op == TEST && next_random(seed) >> 63) return (struct numbers){r >> (64 - t->settings), 0};

@@ -5,7 +5,7 @@
 #include "calls.h"
 #include "tables.h"
 
-#define GUARD 64 /* bytes behind each memory that no call may touch */
+#define GUARD 64 /* bytes behind each memory; no call may touch those that it is not lent */
 #define ANSWER 24 /* bytes of a list's answer */
 
 /* Memory for any operation on this table; the lengths lent and the list are set for one operation. */

@@ -5,10 +5,13 @@
 #include <string.h>
 #include <unistd.h>
 
-#define INSTRUCTION_BAR 1.5
-#define PART_WRITE_BAR 2.0
+/* Of instructions, ours / plain C. */
+#define BAR 1.3
+#define PART_WRITE_BAR 1.6
+#define LIST_BAR 1.5
+
 #define BUDDY_BAR 20.0
-#define LIST_BAR 300.0      /* single calls / the list */
+#define SINGLE_BAR 300.0    /* single calls / the list */
 #define ROW_BAR (1.0 / 3.0) /* numbers in a row / spread */
 
 /* The processor's model, of /proc/cpuinfo. */
@@ -28,7 +31,7 @@ static void print_medians(const struct results *r)
 {
     printf("## Times\n\n"
            "Medians in µs a call, ours and plain C by turns, of the quietest of five passes; ratio = ours / plain C.\n"
-           "Part-write writes part %d of %d. A list has %d numbers, drawn over the whole count, or neighbours in its middle.\n"
+           "Span and part-write: part %d of %d. A list has %d numbers, drawn over the whole count, or neighbours in its middle.\n"
            "Warm: the same memory again and again. Cleared: before each call sheet and out memory are zeroed, and they,\n"
            "the table and the list are flushed from the caches.\n\n"
            "| table       |      N | operation     | ours warm | plain warm | ratio | ours cleared | plain cleared | ratio |\n"
@@ -89,13 +92,18 @@ static void print_bar(const char *operation, const char *what, const char *bound
 /* The list beside single calls, and what its numbers cost where they are neighbours. */
 static void print_list_bars(const struct results *r)
 {
-    double unrank = r->instructions[WIDE][UNRANK][OURS], count = r->instructions[WIDE][COUNT][OURS];
+    double unrank = r->instructions[WIDE][UNRANK][OURS], span = r->instructions[WIDE][SPAN][OURS];
     double spread = r->instructions[WIDE][LIST_SPREAD][OURS], row = r->instructions[WIDE][LIST_ROW][OURS];
     double singly = r->micros[WIDE][UNRANK][WARM][OURS], at_once = r->micros[WIDE][LIST_SPREAD][WARM][OURS];
-    print_bar("list spread", "single unranks / list, instructions", "≥", LIST_BAR, ITEMS * unrank / spread);
-    print_bar("list spread", "single unranks / list, time warm", "≥", LIST_BAR, ITEMS * singly / at_once);
+    print_bar("list spread", "single unranks / list, instructions", "≥", SINGLE_BAR, ITEMS * unrank / spread);
+    print_bar("list spread", "single unranks / list, time warm", "≥", SINGLE_BAR, ITEMS * singly / at_once);
     print_bar("list in a row", "row / spread, instructions", "", 0, row / spread);
-    print_bar("list in a row", "row / spread, instructions less count's", "<", ROW_BAR, (row - count) / (spread - count));
+    print_bar("list in a row", "row / spread, instructions less span's", "<", ROW_BAR, (row - span) / (spread - span));
+}
+
+static double bar_of(enum operation op)
+{
+    return op == PART_WRITE ? PART_WRITE_BAR : is_list(op) ? LIST_BAR : BAR;
 }
 
 static void print_bars(const struct results *r)
@@ -104,8 +112,7 @@ static void print_bars(const struct results *r)
            "| what                                                  | bar      | measured | verdict |\n"
            "|-------------------------------------------------------|----------|---------:|---------|\n");
     for (int op = 0; op < OPERATIONS; op++)
-        print_bar(operation_name(op), "ours / plain C, instructions", op == LIST_ROW ? "" : "≤",
-                  op == PART_WRITE ? PART_WRITE_BAR : INSTRUCTION_BAR,
+        print_bar(operation_name(op), "ours / plain C, instructions", op == LIST_ROW ? "" : "≤", bar_of(op),
                   r->instructions[WIDE][op][OURS] / r->instructions[WIDE][op][PLAIN]);
     print_list_bars(r);
     print_bar("count", "BuDDy's whole job / ours", "≥", BUDDY_BAR, r->buddy[WIDE][WHOLE] / r->buddy[WIDE][BESIDE]);
@@ -115,9 +122,7 @@ void print_report(const struct results *r)
 {
     printf("# The bench\n\n");
     print_machine();
-    printf("In %u calls ours and plain C gave the same answers and left the same bytes, but for the places that part-write may\n"
-           "leave as it likes; BuDDy counts the same.\n\n",
-           r->calls);
+    printf("In %u calls ours and plain C gave the same answers and left the same bytes; BuDDy counts the same.\n\n", r->calls);
     print_medians(r);
     print_instructions(r);
     print_buddy(r);

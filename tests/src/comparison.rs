@@ -63,10 +63,9 @@ impl Comparison {
 
     /// One case, in memory that other calls may have used.
     pub fn compare_in(&mut self, call: Call, lent: &mut Lent) -> Outcome {
-        let mut expected = paper::expect(call, lent.table(), lent.sheet(), lent.out());
+        let expected = paper::expect(call, lent.table(), lent.sheet(), lent.out());
+        let filled = sheets::filled_length(lent.sheet(), sheets::needed(call, lent.table()));
         let found = lent.run(&mut self.lending, call);
-        let loose = expected.loose;
-        expected.outcome.sheet[loose.clone()].copy_from_slice(&found.sheet[loose]);
         if found != expected.outcome {
             panic!(
                 "{}\n{}",
@@ -74,7 +73,7 @@ impl Comparison {
                 difference(&expected.outcome, &found)
             );
         }
-        self.tally.note(call, &expected.refusals);
+        self.tally.note(call, &expected.refusals, filled);
         self.tally.empty_between += u64::from(expected.empty_between);
         found
     }
@@ -123,6 +122,26 @@ impl Comparison {
     /// All operations, with setups, ranks, lists and parts at the borders and random ones, each
     /// with memories of its own.
     pub fn compare_all(&mut self, table: &[u8]) {
+        self.each_call(table, |comparison, call| {
+            comparison.compare_any(call, table);
+        });
+    }
+
+    /// The same, all in the same memories and each after a count, which leaves the counts there.
+    pub fn compare_in_turn(&mut self, table: &[u8]) {
+        let part_write = Call::PartWrite { k: 1, j: 0 };
+        let sheet_len = sheets::served_length(&mut self.rng, sheets::needed(part_write, table));
+        let sheet = sheets::filling(&mut self.rng, sheet_len);
+        let out = sheets::filling(&mut self.rng, table.len() + 100);
+        let mut lent = self.lend(table, &sheet, &out);
+        self.each_call(table, |comparison, call| {
+            comparison.compare_in(Call::Count, &mut lent);
+            comparison.compare_in(call, &mut lent);
+        });
+    }
+
+    /// Makes calls of all operations, with numbers at the borders and random ones.
+    fn each_call(&mut self, table: &[u8], mut make: impl FnMut(&mut Comparison, Call)) {
         let mut calls = vec![Call::Check, Call::Count];
         for setup in self.setups(table) {
             calls.extend([Call::Test { setup }, Call::Rank { setup }]);
@@ -144,7 +163,7 @@ impl Comparison {
             ]);
         }
         for call in calls {
-            self.compare_any(call, table);
+            make(self, call);
         }
     }
 

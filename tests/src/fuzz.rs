@@ -12,7 +12,7 @@ use crate::pages::{self, Guard, Pages};
 use crate::paper::{self, Expected};
 use crate::raw::{self, Source};
 use crate::rng::Rng;
-use crate::sheets;
+use crate::sheets::{self, Length};
 use crate::tally::{is_listed_answer, Tally};
 
 /// The longest sheet: part-write's for the longest table, and some bytes more.
@@ -96,7 +96,7 @@ impl Fuzz {
             contents: [
                 vec![0; LONGEST_SHEET],
                 vec![0xFF; LONGEST_SHEET],
-                rng.bytes(LONGEST_SHEET),
+                sheets::filling(&mut rng, LONGEST_SHEET),
             ],
             table: Pages::new(raw::LONGEST + 8),
             list: Pages::new(8 * MOST_ITEMS as usize + 8),
@@ -118,6 +118,7 @@ impl Fuzz {
         let (sheet_len, out_len) = lengths(&mut rng, call, &table);
         let [sheet, out] = [sheet_len, out_len].map(|len| content(&mut rng, &self.contents, len));
         let expected = paper::expect(call, &table, sheet, out);
+        let filled = sheets::filled_length(sheet, sheets::needed(call, &table));
 
         let guard = match number % 2 {
             0 => Guard::Behind,
@@ -129,8 +130,8 @@ impl Fuzz {
         self.out.put(out, guard);
         pages::set_under_way(number);
         let answer = self.lend(call);
-        self.note(call, &expected, is_raw);
-        self.compare(call, &table, answer, expected)
+        self.note(call, &expected, filled, is_raw);
+        self.compare(call, &table, answer, expected.outcome)
             .map_err(|text| {
                 format!(
                     "{}\n{text}",
@@ -139,10 +140,10 @@ impl Fuzz {
             })
     }
 
-    fn note(&mut self, call: Call, expected: &Expected, is_raw: bool) {
+    fn note(&mut self, call: Call, expected: &Expected, filled: Option<Length>, is_raw: bool) {
         let first = expected.refusals.first();
         self.tally
-            .note(call, first.map_or(&[], std::slice::from_ref));
+            .note(call, first.map_or(&[], std::slice::from_ref), filled);
         self.tally.empty_between += u64::from(expected.empty_between);
         if first.is_none_or(|refusal| refusal.number > 10) {
             self.accepted += 1;
@@ -168,24 +169,15 @@ impl Fuzz {
         call: Call,
         table: &[u8],
         answer: Answer,
-        by_paper: Expected,
+        by_paper: Outcome,
     ) -> Result<(), String> {
-        let Expected { outcome, loose, .. } = by_paper;
-        let (sheet, out) = (self.sheet.content(), self.out.content());
-        let equal = answer == outcome.answer
-            && sheet[..loose.start] == outcome.sheet[..loose.start]
-            && sheet[loose.end..] == outcome.sheet[loose.end..]
-            && out == outcome.out;
-        if !equal {
-            let mut found = outcome.sheet.clone();
-            found[..loose.start].copy_from_slice(&sheet[..loose.start]);
-            found[loose.end..].copy_from_slice(&sheet[loose.end..]);
-            let found = Outcome {
-                answer,
-                sheet: found,
-                out: out.to_vec(),
-            };
-            return Err(difference(&outcome, &found));
+        let found = Outcome {
+            answer,
+            sheet: self.sheet.content().to_vec(),
+            out: self.out.content().to_vec(),
+        };
+        if found != by_paper {
+            return Err(difference(&by_paper, &found));
         }
         let faults = [
             (
@@ -285,9 +277,9 @@ fn lengths(rng: &mut Rng, call: Call, table: &[u8]) -> (usize, usize) {
     (sheet, out)
 }
 
-/// Zeros, ones or random bytes.
+/// Zeros, or seven times in eight bytes none of which is zero.
 fn content<'a>(rng: &mut Rng, contents: &'a [Vec<u8>; 3], len: usize) -> &'a [u8] {
-    let all = &contents[rng.index(4).min(2)];
+    let all = &contents[rng.index(8).min(2)];
     let start = rng.index(all.len() - len + 1);
     &all[start..start + len]
 }

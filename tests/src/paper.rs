@@ -1,8 +1,6 @@
 //! The paper, straight: which refusals hold, what a call answers and what it leaves in the sheet
 //! and the out memory. Written for clarity.
 
-use std::ops::Range;
-
 use crate::call::{Answer, Call, List, Outcome, Refusal};
 use crate::layout::bytes_of;
 use crate::part;
@@ -14,8 +12,6 @@ pub struct Expected {
     /// condition that speaks of what is not there (a header, a record, a part) does not hold.
     pub refusals: Vec<Refusal>,
     pub outcome: Outcome,
-    /// The bytes of the sheet that may be anything afterwards; `outcome` has them as before.
-    pub loose: Range<usize>,
     /// Whether an empty part is written, with setups before it and behind it.
     pub empty_between: bool,
 }
@@ -35,9 +31,9 @@ pub fn expect(call: Call, table: &[u8], sheet: &[u8], out: &[u8]) -> Expected {
     let first = refusals.first().copied();
     let mut sheet = sheet.to_vec();
     let mut out = out.to_vec();
-    let loose = settled
-        .as_ref()
-        .map_or(0..0, |settled| settled.leave_sheet(call, first, &mut sheet));
+    if let Some(settled) = &settled {
+        settled.leave_sheet(call, first, &mut sheet);
+    }
     let empty_between = first.is_none()
         && settled
             .as_ref()
@@ -55,7 +51,6 @@ pub fn expect(call: Call, table: &[u8], sheet: &[u8], out: &[u8]) -> Expected {
     Expected {
         refusals,
         outcome,
-        loose,
         empty_between,
     }
 }
@@ -222,20 +217,15 @@ impl Settled {
         size == 0 && (1..self.total()).contains(&start)
     }
 
-    /// Changes the sheet as the call does, if `first` is the refusal returned. Gives back which
-    /// bytes may be anything.
-    fn leave_sheet(&self, call: Call, first: Option<Refusal>, sheet: &mut [u8]) -> Range<usize> {
-        let number = first.map_or(0, |refusal| refusal.number);
-        let places: Vec<u64> = match number {
-            1..=8 | 10 => return 0..0,
-            9 => vec![0; self.counts.len()],
-            _ => self.counts.iter().map(|&count| narrow(count)).collect(),
+    /// Changes the sheet as the call does, if `first` is the refusal returned: counting leaves the
+    /// counts, and all else leaves the places that it required blank.
+    fn leave_sheet(&self, call: Call, first: Option<Refusal>, sheet: &mut [u8]) {
+        let places = match (first.map(|refusal| refusal.number), call) {
+            (Some(1..=8 | 10), _) => return,
+            (None, Call::Count) => self.counts.iter().map(|&count| narrow(count)).collect(),
+            _ => vec![0; call.places(self.table.node_count) as usize],
         };
-        let end = put_words(sheet, &places) as usize;
-        match number {
-            0 | 11 | 16 => end..8 * call.places(self.table.node_count) as usize,
-            _ => 0..0,
-        }
+        put_words(sheet, &places);
     }
 
     /// The setups of a list of numbers, which are all below C: each is the number's own.

@@ -22,6 +22,28 @@ pub fn border_lengths(needed: usize) -> Vec<usize> {
     lengths
 }
 
+/// How long a sheet is, beside what its call needs.
+#[derive(Clone, Copy, Debug, PartialEq, Eq, PartialOrd, Ord)]
+pub enum Length {
+    Short,
+    Just,
+    SpareBytes,
+    MorePlaces,
+}
+
+/// The length of a sheet without a zero byte, in which every byte that is blanked or left shows.
+pub fn filled_length(sheet: &[u8], needed: usize) -> Option<Length> {
+    if sheet.is_empty() || sheet.contains(&0) {
+        return None;
+    }
+    Some(match sheet.len().checked_sub(needed) {
+        None => Length::Short,
+        Some(0) => Length::Just,
+        Some(1..=7) => Length::SpareBytes,
+        Some(_) => Length::MorePlaces,
+    })
+}
+
 /// A length of a random class; about two in three are long enough. A few bytes, if none is needed.
 pub fn random_length(rng: &mut Rng, needed: usize) -> usize {
     match rng.below(16) {
@@ -43,11 +65,17 @@ pub fn served_length(rng: &mut Rng, needed: usize) -> usize {
     needed + rng.pick(&[0, 0, 1, 3, 7, 8, 50])
 }
 
-/// Zeros, ones or random bytes.
+/// Seven times in eight without a zero byte, otherwise zeros.
 pub fn random_content(rng: &mut Rng, len: usize) -> Vec<u8> {
-    match rng.below(4) {
+    match rng.below(8) {
         0 => vec![0; len],
-        1 => vec![0xFF; len],
-        _ => rng.bytes(len),
+        1..=2 => vec![0xFF; len],
+        _ => filling(rng, len),
     }
+}
+
+/// Random bytes, none of them zero.
+pub fn filling(rng: &mut Rng, len: usize) -> Vec<u8> {
+    let bytes = rng.bytes(len);
+    bytes.into_iter().map(|byte| byte.max(1)).collect()
 }

@@ -3,6 +3,7 @@
 use std::collections::{BTreeMap, BTreeSet};
 
 use crate::call::{Answer, Call, Refusal};
+use crate::sheets::Length;
 
 /// The refusals of every operation in the paper's order; of 1 its second place, since a table
 /// under 8 bytes has no other condition but 15, 17 and 18.
@@ -87,6 +88,8 @@ pub struct Tally {
     pub cases: u64,
     /// By operation and refusal number, 0 for a result.
     answers: BTreeMap<(&'static str, u64), u64>,
+    /// Of these the cases in which no byte of the sheet was zero before.
+    filled: BTreeMap<(&'static str, u64, Length), u64>,
     together: BTreeSet<Pair>,
     /// Both at the same record.
     same_record: BTreeSet<Pair>,
@@ -97,12 +100,16 @@ pub struct Tally {
 }
 
 impl Tally {
-    /// Notes a case and the refusals whose conditions hold in it, the returned one first.
-    pub fn note(&mut self, call: Call, refusals: &[Refusal]) {
+    /// Notes a case, the refusals whose conditions hold in it, the returned one first, and the
+    /// length of its sheet, if that had no zero byte.
+    pub fn note(&mut self, call: Call, refusals: &[Refusal], filled: Option<Length>) {
         self.cases += 1;
         let name = operation(call);
         let number = refusals.first().map_or(0, |refusal| refusal.number);
         *self.answers.entry((name, number)).or_default() += 1;
+        if let Some(length) = filled {
+            *self.filled.entry((name, number, length)).or_default() += 1;
+        }
         for other in refusals.iter().skip(1) {
             let first = refusals[0];
             let pair = (name, first.number, other.number);
@@ -140,6 +147,42 @@ impl Tally {
                 );
             }
         }
+    }
+
+    /// Every operation has been called so often.
+    pub fn assert_calls(&self, least: u64) {
+        for (name, _) in OPERATIONS {
+            let calls = self.calls(name);
+            assert!(calls >= least, "{name}: {calls} calls");
+        }
+    }
+
+    /// Every result and every refusal of every operation has been met with sheets without a zero
+    /// byte: just long enough, with spare bytes and with more places; 10 with short ones. Each 50
+    /// times, but 16, whose tables are long, at least once.
+    pub fn assert_every_sheet(&self) {
+        for (name, _) in OPERATIONS {
+            for number in (0..=LAST_REFUSAL).filter(|&number| is_listed(name, number)) {
+                let lengths: &[Length] = match number {
+                    10 => &[Length::Short],
+                    _ => &[Length::Just, Length::SpareBytes, Length::MorePlaces],
+                };
+                let least = if number == 16 { 1 } else { 50 };
+                for &length in lengths {
+                    let met = self.filled.get(&(name, number, length)).copied();
+                    assert!(
+                        met.unwrap_or(0) >= least,
+                        "{name}, refusal {number} (0: a result), {length:?}: filled sheets met {met:?}"
+                    );
+                }
+            }
+        }
+    }
+
+    /// How many cases had a sheet of this length without a zero byte.
+    fn filled(&self, length: Length) -> u64 {
+        let cases = self.filled.iter().filter(|(key, _)| key.2 == length);
+        cases.map(|(_, cases)| cases).sum()
     }
 
     /// Every two refusals that can hold together have been met together in every operation that
@@ -203,9 +246,13 @@ impl Tally {
             .map(|(number, cases)| format!("{number}: {cases}"))
             .collect();
         format!(
-            "{} cases; by refusal (0: a result) {}",
+            "{} cases; by refusal (0: a result) {}\nsheets without a zero byte: {} short, {} just long enough, {} with spare bytes, {} with more places",
             self.cases,
-            parts.join(", ")
+            parts.join(", "),
+            self.filled(Length::Short),
+            self.filled(Length::Just),
+            self.filled(Length::SpareBytes),
+            self.filled(Length::MorePlaces)
         )
     }
 }

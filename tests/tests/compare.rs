@@ -19,6 +19,7 @@ fn library_agrees_with_the_paper() {
         ("one record a height", chains),
         ("random accepted tables", accepted),
         ("sheets of every length", every_sheet),
+        ("one call after another in the same memories", same_memories),
         ("records that nothing names", unnamed),
         ("one aimed fault", one_fault),
         ("several aimed faults", several_faults),
@@ -32,6 +33,8 @@ fn library_agrees_with_the_paper() {
     ]);
     comparison.tally.assert_every_answer();
     comparison.tally.assert_every_pair();
+    comparison.tally.assert_every_sheet();
+    comparison.tally.assert_calls(20_000);
     assert!(comparison.tally.cases >= 500_000);
 }
 
@@ -149,11 +152,22 @@ fn every_sheet(comparison: &mut Comparison) {
         ] {
             let out = vec![0x55; paper::out_needed(call, &table)];
             for len in sheets::border_lengths(sheets::needed(call, &table)) {
-                for sheet in [vec![0; len], vec![0xFF; len], comparison.rng.bytes(len)] {
+                let filling = sheets::filling(&mut comparison.rng, len);
+                for sheet in [vec![0; len], vec![0xFF; len], filling] {
                     comparison.compare(call, &table, &sheet, &out);
                 }
             }
         }
+    }
+}
+
+fn same_memories(comparison: &mut Comparison) {
+    for round in 0..200 {
+        let mut words = tables::of_any_size(&mut comparison.rng);
+        if round % 4 == 3 {
+            damage::aim(&mut comparison.rng, &mut words, 9);
+        }
+        comparison.compare_in_turn(&bytes_of(&words));
     }
 }
 
@@ -294,8 +308,16 @@ fn wide_parts(comparison: &mut Comparison) {
         }
         let j = comparison.rng.below(k);
         let call = Call::PartWrite { k, j };
-        let sheet_len = sheets::needed(call, &table) - usize::from(refusal == 10);
-        let out_len = comparison.rng.pick(&[0, 8 * 65_536]);
-        comparison.compare_lengths(call, &table, sheet_len, out_len);
+        let needed = sheets::needed(call, &table);
+        let sheet_lens = match refusal {
+            0 => vec![needed, needed + 5, needed + 27],
+            10 => vec![needed - 1],
+            _ => vec![needed],
+        };
+        for sheet_len in sheet_lens {
+            let sheet = sheets::filling(&mut comparison.rng, sheet_len);
+            let out_len = comparison.rng.pick(&[0, 8 * 65_536]);
+            comparison.compare(call, &table, &sheet, &vec![0x55; out_len]);
+        }
     }
 }

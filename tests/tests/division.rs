@@ -111,7 +111,8 @@ impl Division<'_> {
 }
 
 fn lend(comparison: &mut Comparison, table: &[u8], lens: (usize, usize)) -> Lent {
-    let (sheet, out) = (comparison.rng.bytes(lens.0), comparison.rng.bytes(lens.1));
+    let rng = &mut comparison.rng;
+    let (sheet, out) = (sheets::filling(rng, lens.0), sheets::filling(rng, lens.1));
     comparison.lend(table, &sheet, &out)
 }
 

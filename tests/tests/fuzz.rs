@@ -9,4 +9,5 @@ fn raw_bytes_are_answered_as_the_paper_says() {
     report(&run.to_string());
     assert_eq!(run.differences, 0);
     assert!(run.tally.empty_between >= 50);
+    run.tally.assert_calls(20_000);
 }

@@ -161,7 +161,8 @@ fn same_memories(comparison: &mut Comparison) {
     for _ in 0..100 {
         let rng = &mut comparison.rng;
         let table = bytes_of(&tables::of_any_size(rng));
-        let (sheet, out) = (rng.bytes(table.len() + 9), rng.bytes(8 * 6 + 5));
+        let sheet = sheets::filling(rng, table.len() + 9);
+        let out = sheets::filling(rng, 8 * 6 + 5);
         let count = count(comparison, &table);
         let mut lent = comparison.lend(&table, &sheet, &out);
         for _ in 0..20 {

@@ -183,7 +183,7 @@ fn lists() {
             let out = vec![0xFF; 8 * room];
             let outcome = comparison.compare(call, &bytes_of(&A), &[0xFF; 40], &out);
             assert_eq!(outcome.answer, answer);
-            assert_eq!(words_of(&outcome.sheet), [1, 1, 2, 6, u64::MAX]);
+            assert_eq!(words_of(&outcome.sheet), [0, 0, 0, 0, u64::MAX]);
             let mut left = setups.to_vec();
             left.resize(room, u64::MAX);
             assert_eq!(words_of(&outcome.out), left);
@@ -221,17 +221,19 @@ fn parts() {
 fn written_parts() {
     let mut comparison = Comparison::of_run();
     let table = bytes_of(&A);
+    // Whatever is answered, the 4 * 3 + 512 places that are required come back blank.
     let mut write = |k, j, out_len| {
         let (sheet, out) = ([0xFF; 8 * 526], vec![0xFF; out_len]);
-        comparison.compare(Call::PartWrite { k, j }, &table, &sheet, &out)
+        let outcome = comparison.compare(Call::PartWrite { k, j }, &table, &sheet, &out);
+        let places = words_of(&outcome.sheet);
+        assert_eq!(places[..524], [0; 524]);
+        assert_eq!(places[524..], [u64::MAX; 2]);
+        outcome
     };
     for (j, words) in (0..).zip(HALVES_OF_A) {
         let outcome = write(2, j, 48);
         assert_eq!(outcome.answer, Answer::result(8 * words.len() as u64));
         assert_eq!(words_of(front(&outcome)), words);
-        let places = words_of(&outcome.sheet);
-        assert_eq!(places[..4], [1, 1, 2, 6]);
-        assert_eq!(places[4 * 3 + 512..], [u64::MAX; 2]);
         let outcome = write(2, j, 8 * words.len() - 1);
         assert_eq!(outcome.answer, refused(11, 0));
     }
@@ -241,11 +243,7 @@ fn written_parts() {
         assert_eq!(write(k, j, 7).answer, refused(11, 0));
     }
     for (k, j) in [(0, 0), (2, 2), (65_536, 0)] {
-        let outcome = write(k, j, 0);
-        assert_eq!(outcome.answer, refused(15, 0));
-        let places = words_of(&outcome.sheet);
-        assert_eq!(places[..4], [1, 1, 2, 6]);
-        assert_eq!(places[4..], [u64::MAX; 522]);
+        assert_eq!(write(k, j, 0).answer, refused(15, 0));
     }
 }
 
@@ -271,7 +269,12 @@ fn sheets_and_refused_tables() {
         Call::SpanSize { k: 4, j: 4 },
     ] {
         let places = words_of(&sampler.ask(call, &bytes_of(&A)).sheet);
-        assert_eq!(places, [1, 1, 2, 6, u64::MAX, u64::MAX, u64::MAX, u64::MAX]);
+        let left = match call {
+            Call::Count => [1, 1, 2, 6],
+            _ => [0; 4],
+        };
+        assert_eq!(places[..4], left);
+        assert_eq!(places[4..], [u64::MAX; 4]);
         for (table, number, place) in refused_samples() {
             let outcome = sampler.ask(call, &table);
             assert_eq!(outcome.answer, refused(number, place));
