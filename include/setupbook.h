@@ -24,13 +24,9 @@
  * `answer`, that of its numbers. Lengths and contents may be any: there is nothing to check before
  * a call. A call allocates nothing, keeps nothing and takes about 70 KiB of stack.
  *
- * Sheet afterwards, its first N + 1 words (most significant byte first), by what was answered:
- *     refusals 1 to 8, and 10          unchanged
- *     refusal 9                        zero
- *     refusals 11 to 18, or a result   word k is the model count of node k over the settings from
- *                                      its own down to the last; word 0 is 1
- * Words N + 1 to 4 * N + 511 may hold anything after part-write has answered a result, 16 or 11.
- * All other bytes are unchanged. No call depends on what the sheet held before.
+ * Sheet afterwards: unchanged by refusals 1 to 8, and 10. After everything else, a result or a
+ * refusal, the words that the call requires are zero: N + 1, and 4 * N + 512 for part-write. All
+ * other bytes are unchanged. No call depends on what the sheet held before.
  *
  * Out memory and `setups` afterwards: the part, or the setups, in front, if they were written; all
  * other bytes are unchanged.
