@@ -1,4 +1,4 @@
--- How a sheet is handed back, in the words of the request. Assumes nothing.
+-- How a sheet is handed back, in the words of request 3. Assumes nothing.
 use Prim.Native.Nat.{ℕ, _*_, _≤_, _<_}
 use mathlib.Core.Path.{_≡_}
 use mathlib.Core.Logic.{_≢_}
