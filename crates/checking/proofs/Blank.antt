@@ -15,7 +15,7 @@ use Rattle.diagram.specs.Answer.{Answer, value, refusal, andThen}
 use Rattle.diagram.proofs.Accept.{headed, check-accepted}
 use Rattle.diagram.proofs.Refusals.{Refuses, passes, check-refuses, nine-headed}
 use Rattle.checking.specs.Operations.{checking, checkingFor, testing, sheetBy, blank, blankFor}
-use Rattle.checking.specs.Sheets.{HandedBack}
+use Rattle.checking.specs.Sheets.{BeforeNine, HandedBack}
 use Rattle.checking.proofs.Compose.{sheet-kept, sheet-zeroed, headed-places}
 use Rattle.checking.proofs.Lending.{filled-past}
 use Rattle.checking.proofs.Bounds.{test-refuses}
@@ -26,9 +26,9 @@ Late number place = 10 < number
 
 -- the places are zeroed, and the answer is no refusal that touches nothing
 zeroed : {A : Type 0} (m : ℕ) (answer : Answer A) (s s′ : List ℕ) → 8 * m ≤ length s → s′ ≡ wordsOver (λ _. 0) m s
-    → ((number place : ℕ) → answer ≡ refusal number place → number ≤ 10 → number ≡ 9) → HandedBack m answer s s′
+    → (BeforeNine answer → ⊥) → HandedBack m answer s s′
 zeroed m answer s s′ room e none = record {
-  untouched = λ number place q l o. absurd (o (none number place q l));
+  untouched = λ b. absurd (none b);
   zero = λ _ k l. ap (λ (x : List ℕ). wordAt x k) e ∙ words-read (λ _. 0) m s k l (lit< tt);
   past = filled-past (λ _. 0) m s s′ e;
   same-length = ap length e ∙ length-wordsOver (λ _. 0) m s room;
@@ -56,13 +56,13 @@ module _ (need : ℕ → ℕ) (t s : List ℕ) where
       go true q =
           let nine : number ≡ 9 = eqb-true number 9 q in
           let e′ = subst (λ (r : ℕ). checkingFor need t s ≡ refusal r place) nine e in
-          zeroed m (refusal number place) s (blankFor need t s) (nine-room place e′) (sym (sheet-zeroed (λ _. 0) m (checkingFor need t s) number place s e nine)) (λ r p i l. let j : number ≡ r = cc in sym j ∙ nine)
+          zeroed m (refusal number place) s (blankFor need t s) (nine-room place e′) (sym (sheet-zeroed (λ _. 0) m (checkingFor need t s) number place s e nine)) (λ b. let i = b .2 in let j : number ≡ b .0 = cc in b .4 (sym j ∙ nine))
       go false q =
           let other : number ≡ 9 → ⊥ = eqb-false number 9 q in
           let kept : blankFor need t s ≡ s = sym (sheet-kept (λ _. 0) m (checkingFor need t s) number place s e other) in
           record {
-            untouched = λ _ _ _ _ _. kept;
-            zero = λ none k l. absurd (other (none number place refl (check-refuses t (length s / 8) need number place e .1)));
+            untouched = λ _. kept;
+            zero = λ none k l. absurd (none (number, place, refl, check-refuses t (length s / 8) need number place e .1, other));
             past = ap (drop (8 * m)) kept;
             same-length = ap length kept;
           }
@@ -74,7 +74,7 @@ module _ (need : ℕ → ℕ) (t s : List ℕ) where
     hands-back = go (checkingFor need t s) refl
       where
         go : (a : Answer (ℕ × ℕ)) → checkingFor need t s ≡ a → HandedBack m (andThen a f) s (blankFor need t s)
-        go (value v) e = zeroed m (f v) s (blankFor need t s) (passed-room v e) (rw e) (λ number place q l. absurd (omega (arith, late v number place q)))
+        go (value v) e = zeroed m (f v) s (blankFor need t s) (passed-room v e) (rw e) (λ b. absurd (omega (arith, late v (b .0) (b .1) (b .2), b .3)))
         go (refusal number place) e = refused number place e
 
 -- checking and testing

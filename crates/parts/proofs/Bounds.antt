@@ -16,7 +16,7 @@ use Rattle.diagram.proofs.AnswerLaws.{refused-not, then-some}
 use Rattle.diagram.proofs.Refusals.{Refuses, refuses, passes, unless, then-refuses}
 use Rattle.diagram.proofs.Accept.{accepts-accepted}
 use Rattle.checking.specs.Operations.{checkingFor}
-use Rattle.checking.specs.Sheets.{HandedBack}
+use Rattle.checking.specs.Sheets.{BeforeNine, HandedBack}
 use Rattle.checking.proofs.Bounds.{Low, checking-place}
 use Rattle.checking.proofs.Blank.{Late, hands-back}
 use Rattle.division.specs.Span.{inPart}
@@ -54,9 +54,9 @@ pub part-back : (t : List ℕ) (k j : ℕ) (s out : List ℕ) (answer : Answer �
 unfolding partWriting
 part-back t k j s out answer s′ out′ K =
     let H = hands-back needed t s (λ _. partOf k j (length out) (settings (wordAt t)) (permitted (wordAt t))) (λ _. part-refuses Late (omega arith) (omega arith) (omega arith) k j (length out) (settings (wordAt t)) (permitted (wordAt t))) in
-    let same : (number place : ℕ) → answer ≡ refusal number place → partWriting t k j s (length out) ≡ refusal number place = λ number place e. answer-refusal (partWriting t k j s (length out)) number place (sym (K .answers) ∙ e) in
-    let back : (number place : ℕ) → partWriting t k j s (length out) ≡ refusal number place → answer ≡ refusal number place = λ number place e. unfold lengthOf in K .answers ∙ ap lengthOf e in
-    rw (K .leaves) (record { untouched = λ number place e. H .untouched number place (same number place e); zero = λ none. H .zero (λ number place e. none number place (back number place e)); past = H .past; same-length = H .same-length })
+    let same : BeforeNine answer → BeforeNine (partWriting t k j s (length out)) = λ b. (b .0, b .1, answer-refusal (partWriting t k j s (length out)) (b .0) (b .1) (sym (K .answers) ∙ b .2), b .3, b .4) in
+    let back : BeforeNine (partWriting t k j s (length out)) → BeforeNine answer = λ b. (b .0, b .1, (unfold lengthOf in K .answers ∙ ap lengthOf (b .2)), b .3, b .4) in
+    rw (K .leaves) (record { untouched = λ b. H .untouched (same b); zero = λ none. H .zero (λ b. none (back b)); past = H .past; same-length = H .same-length })
 
 -- a written part has at most 524,288 bytes
 pub bytes-fit : (t : List ℕ) (k j : ℕ) (s : List ℕ) (room m : ℕ) → lengthOf (partWriting t k j s room) ≡ value m → m ≤ 524288

@@ -1,7 +1,6 @@
 // Refusals, and the rules of the header: 1 to 3, and 10.
 ghost use mathlib.Core.Path.{_≡_};
 ghost use Prim.Native.Nat.{_+_, _*_, _≤_, _<_, _^_};
-ghost use lib.ListN.{length};
 ghost use Rattle.diagram.specs.Rules.{checkHeader};
 ghost use Rattle.rules.specs.Refusals.{numberOf, placeOf, verdictAs};
 use diagram::Node;
