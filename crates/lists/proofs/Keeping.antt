@@ -13,10 +13,11 @@ use Rattle.words.proofs.Cases.{less, same, more, tri}
 use Rattle.diagram.specs.Format.{Words}
 use Rattle.diagram.specs.Meaning.{under}
 use Rattle.diagram.specs.Count.{countBelow}
-use Rattle.diagram.proofs.CountLaws.{count-cong, count-add, count-le}
+use Rattle.diagram.proofs.CountLaws.{count-le}
 use Rattle.ranking.specs.declared.descent.Way.{Way}
 use Rattle.ranking.specs.Inner.{Chosen, ChosenBy, Advances}
-use Rattle.ranking.proofs.Choosing.{chosen-last, digits-fit}
+use Rattle.ranking.proofs.Settings.{beginning-span}
+use Rattle.ranking.proofs.Choosing.{chosen-fits, chosen-counts, chosen-last, digits-fit}
 use Rattle.ranking.proofs.Ways.{at-top}
 use Rattle.lists.specs.Inner.{Entry, Trail, Follows, Reaches}
 
@@ -29,17 +30,13 @@ module _ (w : Words) (n root asked h e left x : ℕ) (C : Chosen w n root asked 
   abbrev P : ℕ → Bool
   P = under w root
 
-  abbrev begin : ℕ → Bool
-  begin y = P (x * 2 ^ h + y)
-
-  own-count : countBelow begin (2 ^ h) ≡ countBelow (under w e) (2 ^ h)
-  own-count = sym (count-cong (under w e) begin (2 ^ h) (C .same))
-
   pub left-below : left < countBelow (under w e) (2 ^ h)
-  left-below = omega (arith, own-count, C .left-fits)
+  left-below = omega (arith, C .number .below, chosen-counts w n root asked h e left x C)
 
   asked-below : asked < 2 ^ n
-  asked-below = omega (arith, C .left-is, C .left-fits, count-add P (x * 2 ^ h) (2 ^ h), count-le P (x * 2 ^ h + 2 ^ h), C .begins)
+  asked-below =
+      let fits = chosen-fits w n root asked h e left x C in
+      omega (arith, C .number .less, C .number .below, beginning-span P n h x fits, count-le P ((x + 1) * 2 ^ h), fits)
 
 -- a later rank under the same settings
 entry-rise : (t s : List ℕ) (n root r h e end x : ℕ) → Entry t s n root r h e end x → (r′ : ℕ) → r ≤ r′ → r′ < end → Entry t s n root r′ h e end x
@@ -50,10 +47,12 @@ entry-rise t s n root r h e end x E r′ l u =
       opens = E .opens;
       left = E .left + (r′ - r);
       chosen = record {
-        begins = C .begins;
+        few = C .few;
         same = C .same;
-        left-is = omega (arith, C .left-is);
-        left-fits = rw (own-count (wordAt t) n root r h e (E .left) x C) (omega (arith, E .end-is));
+        number = record {
+          less = omega (arith, C .number .less);
+          below = omega (arith, E .end-is, chosen-counts (wordAt t) n root r h e (E .left) x C);
+        };
       };
       end-is = omega (arith, E .end-is);
     }
@@ -98,7 +97,7 @@ module _ (t s : List ℕ) (n root r : ℕ) (edges ends : List ℕ) (h : ℕ) (wa
       opens = A .stands .opens;
       left = next .left;
       chosen = chosen-next;
-      end-is = omega (arith, chosen-next .left-is, A .stands .below .count-is);
+      end-is = omega (arith, chosen-next .number .less, A .stands .below .count-is);
     }
 
     entries : (k : ℕ) → h - 1 ≤ k → k ≤ n → r < getD (set ends (h - 1) end) k 0
@@ -141,7 +140,7 @@ module _ (t s : List ℕ) (n root r : ℕ) (edges ends : List ℕ) (h : ℕ) (wa
         let c : next .count ≤ 2 ^ (h - 1) = rw (A .stands .below .count-is) (count-le (under w (next .edge .value)) (2 ^ (h - 1))) in
         let i : 2 ^ (h - 1) ≤ 2 ^ 63 = pow-mono {i = h - 1} {j = 63} (omega (arith, F .low, F .trail .few)) in
         let j : 2 ^ n ≤ 2 ^ 63 = pow-mono {i = n} {j = 63} (F .trail .few) in
-        (omega (arith, F .low, F .trail .few), omega (arith, chosen-next .left-is), omega (arith, asked-below w n root r h (way .edge .value) (way .left) (way .digits) (F .chosen)))
+        (omega (arith, F .low, F .trail .few), omega (arith, chosen-next .number .less), omega (arith, asked-below w n root r h (way .edge .value) (way .left) (way .digits) (F .chosen)))
 
 -- a way whose node is as high as the settings left
 pub at-node : (t s : List ℕ) (n root r : ℕ) (edges ends : List ℕ) (h : ℕ) (way : Way) → Follows t s n root r edges ends h way → h ≤ way .height → Follows t s n root r edges ends (way .height) way

@@ -89,13 +89,14 @@ fn branch(table: &[u8], sheet: &[u8], way: Way) -> Way
     let e = way.edge;
     let sides = diagram::record_at(table, e.node()).cofactors(e);
     let low = look_below(table, sheet, sides.low, way.height - 1);
+    let rest = way.count - low.count;
     let choice = choose(way.left, way.digits, low.count);
     if choice.on {
         let edge = sides.high;
         return Way {
             edge,
             height: diagram::height_at(table, edge.node()),
-            count: way.count - low.count,
+            count: rest,
             left: choice.left,
             digits: choice.digits,
         };

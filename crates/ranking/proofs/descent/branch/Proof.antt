@@ -15,33 +15,33 @@ look-below-requires c κs =
     let p = a .before .before .before .before .before .pre in
     low-opens _ _ _ _ (p .0) (p .1) (le-refl _) _ (a .before .node .ensures) _ _ _ (a .record-at .ensures) _ _ (c .before .cofactors .ensures)
 
-height-at-requires : tie.Need-height-at-requires
-height-at-requires c κs =
-    let a = c .before .before .before .before .before .before .before in
-    let p = a .before .before .before .before .before .pre in
-    high-room _ _ _ _ (p .0) (p .1) (le-refl _) _ (a .before .node .ensures) _ _ _ (a .record-at .ensures) _ _ (c .before .before .before .before .before .before .cofactors .ensures) _ (c .node2 .ensures)
-
-sub-t16 : tie.Need-sub-t16
-sub-t16 c =
-    let b = c .before .before .before .before .before .before .before in
+sub-rest : tie.Need-sub-rest
+sub-rest c =
+    let b = c .before .before in
     let a = b .before .before .before in
     let p = a .before .before .before .before .before .pre in
     off-fits _ _ _ _ (p .0) (p .1) (le-refl _) _ (a .before .node .ensures) _ _ _ (a .record-at .ensures) _ _ (b .before .before .cofactors .ensures) _ _ (b .look-below .ensures)
 
+height-at-requires : tie.Need-height-at-requires
+height-at-requires c κs =
+    let b = c .before .before .before .before .before .before in
+    let a = b .before .before .before in
+    let p = a .before .before .before .before .before .pre in
+    high-room _ _ _ _ (p .0) (p .1) (le-refl _) _ (a .before .node .ensures) _ _ _ (a .record-at .ensures) _ _ (b .before .before .cofactors .ensures) _ (c .node2 .ensures)
+
 returns : tie.Need-returns
 returns c =
-    let h = c .before .before in
-    let d = h .before .before .before .before in
-    let b = d .before in
+    let d = c .before .before .before .before in
+    let b = d .before .before .before in
     let a = b .before .before .before in
     let p = a .before .before .before .before .before .pre in
     goes-high _ _ _ _ (p .0) (p .1) (le-refl _) _ (a .before .node .ensures) _ _ _ (a .record-at .ensures) _ _ (b .before .before .cofactors .ensures) _ _ (b .look-below .ensures)
-    _ _ (d .choose .ensures) (h .before .before .before .if1 .taken) refl _ (h .before .node2 .ensures) (h .height-at .ensures .0) refl
+    _ _ (d .choose .ensures) (c .before .before .before .if1 .taken) refl _ (c .before .node2 .ensures) (c .height-at .ensures .0) refl
 
 returns-2 : tie.Need-returns-2
 returns-2 c =
     let d = c .before .before in
-    let b = d .before in
+    let b = d .before .before .before in
     let a = b .before .before .before in
     let p = a .before .before .before .before .before .pre in
     goes-low _ _ _ _ (p .0) (p .1) (le-refl _) _ (a .before .node .ensures) _ _ _ (a .record-at .ensures) _ _ (b .before .before .cofactors .ensures) _ _ (b .look-below .ensures)
@@ -50,5 +50,5 @@ returns-2 c =
 pub branch-spec : {M : Type 1} → statement M
 branch-spec =
     tie.close
-    (tie.spec (λ c κs. search needs) record-at-requires (λ c κs. search needs) (λ c. search needs) look-below-requires (λ c κs. search needs) (λ c κs. search needs)
-    height-at-requires sub-t16 returns returns-2)
+    (tie.spec (λ c κs. search needs) record-at-requires (λ c κs. search needs) (λ c. search needs) look-below-requires sub-rest (λ c κs. search needs) (λ c κs. search needs)
+    height-at-requires returns returns-2)

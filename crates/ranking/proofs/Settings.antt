@@ -1,0 +1,168 @@
+-- Unranking, setting by setting, over any test: how the number left goes on by one setting, and that it is that of the setup found, after each. Assumes nothing.
+use Prim.Native.Nat.{ℕ, suc, _+_, _-_, _*_, _/_, _^_, _≤_, _<_}
+use mathlib.Core.Path.{_≡_, refl, sym, ap, _∙_}
+use mathlib.Core.Bool.{Bool, true, false, _&&_, and-true, and-false}
+use native.Mathlib.Nat.{div-eq-of-lt-le, div-mul-le-self, lt-div-mul-add, mul-le-mul-right}
+use native.Mathlib.Omega.{arith}
+use lib.Dec.{eqb}
+use lib.Pow.{pow-pos, pow-add}
+use borrow.Author.Tests.{eq-eqb, ne-eqb}
+use Rattle.words.proofs.Cases.{less, same, more, tri}
+use Rattle.diagram.specs.Count.{indicator, countBelow}
+use Rattle.diagram.proofs.Bits.{pow-halves}
+use Rattle.diagram.proofs.CountLaws.{count-cong, count-none, count-add, count-mono, count-mono-lt}
+use Rattle.diagram.proofs.Select.{Selected}
+use Rattle.ranking.specs.Settings.{countBeginning, IsLeft}
+
+-- where the first settings are those of x
+begins : (h x y : ℕ) → x * 2 ^ h ≤ y → y < (x + 1) * 2 ^ h → eqb (y / 2 ^ h) x ≡ true
+begins h x y l u = eq-eqb (y / 2 ^ h) x (div-eq-of-lt-le (2 ^ h) l u)
+
+-- ... and where not
+module _ (h x y : ℕ) where
+  low : y / 2 ^ h * 2 ^ h ≤ y
+  low = div-mul-le-self y (2 ^ h)
+
+  high : y < y / 2 ^ h * 2 ^ h + 2 ^ h
+  high = lt-div-mul-add (pow-pos h)
+
+  begins-below : y < x * 2 ^ h → eqb (y / 2 ^ h) x ≡ false
+  begins-below l = ne-eqb (y / 2 ^ h) x (λ e. let q : y / 2 ^ h * 2 ^ h ≡ x * 2 ^ h = rw e in omega (arith, q, low))
+
+  begins-above : (x + 1) * 2 ^ h ≤ y → eqb (y / 2 ^ h) x ≡ false
+  begins-above l = ne-eqb (y / 2 ^ h) x (λ e. let q : y / 2 ^ h * 2 ^ h ≡ x * 2 ^ h = rw e in omega (arith, q, high))
+
+-- the setups that begin so come one after the other
+module _ (P : ℕ → Bool) (n h x : ℕ) (fits : (x + 1) * 2 ^ h ≤ 2 ^ n) where
+  abbrev base : ℕ
+  base = x * 2 ^ h
+
+  abbrev rest : ℕ
+  rest = 2 ^ n - (x + 1) * 2 ^ h
+
+  abbrev Q : ℕ → Bool
+  Q y = P y && eqb (y / 2 ^ h) x
+
+  pub beginning-is : countBeginning P n h x ≡ countBelow (λ y. P (base + y)) (2 ^ h)
+  unfolding countBeginning
+  beginning-is =
+      let all : 2 ^ n ≡ base + (2 ^ h + rest) = omega arith in
+      let before = count-none Q base (λ y l. rw (begins-below h x y l) (and-false (P y))) in
+      let so = count-cong (λ y. Q (base + y)) (λ y. P (base + y)) (2 ^ h) (λ y l. rw (begins h x (base + y) (omega arith) (omega arith)) (and-true (P (base + y)))) in
+      let after = count-none (λ y. Q (base + (2 ^ h + y))) rest (λ y l. rw (begins-above h x (base + (2 ^ h + y)) (omega arith)) (and-false (P (base + (2 ^ h + y))))) in
+      ap (countBelow Q) all ∙ omega (arith, count-add Q base (2 ^ h + rest), count-add (λ y. Q (base + y)) (2 ^ h) rest, before, so, after)
+
+  pub beginning-span : countBelow P base + countBeginning P n h x ≡ countBelow P ((x + 1) * 2 ^ h)
+  beginning-span =
+      let end : base + 2 ^ h ≡ (x + 1) * 2 ^ h = omega arith in
+      rw beginning-is (sym (count-add P base (2 ^ h)) ∙ ap (countBelow P) end)
+
+-- 2 ^ n is whole blocks of 2 ^ h
+block-fits : (n h x : ℕ) → h ≤ n → x * 2 ^ h < 2 ^ n → (x + 1) * 2 ^ h ≤ 2 ^ n
+block-fits n h x few l =
+    let blocks : 2 ^ (n - h) * 2 ^ h ≡ 2 ^ n = let q : n - h + h ≡ n = omega arith in sym (pow-add 2 (n - h) h) ∙ ap (λ (m : ℕ). 2 ^ m) q in
+    elim (tri x (2 ^ (n - h))) [
+      | less u ↦ let v : x + 1 ≤ 2 ^ (n - h) = omega arith in rw (← blocks) (mul-le-mul-right (2 ^ h) v)
+      | same e ↦ let q : x * 2 ^ h ≡ 2 ^ (n - h) * 2 ^ h = rw e in absurd (omega (arith, q, blocks))
+      | more u ↦ let v : 2 ^ (n - h) ≤ x = omega arith in absurd (omega (arith, blocks, mul-le-mul-right (2 ^ h) v))
+    ]
+
+-- before the first setting
+pub left-first : (P : ℕ → Bool) (n asked : ℕ) → asked < countBelow P (2 ^ n) → IsLeft P n asked n 0 asked
+unfolding countBelow
+left-first P n asked l =
+    let whole : (0 + 1) * 2 ^ n ≡ 2 ^ n = omega arith in
+    let none : 0 * 2 ^ n ≡ 0 = omega arith in
+    let span = beginning-span P n n 0 (omega arith) in
+    record { less = rw none (omega arith); below = omega (arith, span, ap (countBelow P) whole, ap (countBelow P) none) }
+
+-- a number is left: so some setup begins with these settings
+pub left-fits : (P : ℕ → Bool) (n asked h x left : ℕ) → h ≤ n → IsLeft P n asked h x left → (x + 1) * 2 ^ h ≤ 2 ^ n
+unfolding countBeginning
+left-fits P n asked h x left few L =
+    elim (tri (x * 2 ^ h) (2 ^ n)) [ less l ↦ block-fits n h x few l | same e ↦ absurd (none (omega arith)) | more l ↦ absurd (none (omega arith)) ]
+  where
+    none : 2 ^ n ≤ x * 2 ^ h → ⊥
+    none l =
+        let z = count-none (λ y. P y && eqb (y / 2 ^ h) x) (2 ^ n) (λ y u. rw (begins-below h x y (omega arith)) (and-false (P y))) in
+        omega (arith, z, L .below)
+
+-- one setting more: compared with how many begin with the settings so far and then a 0, and lessened by them
+module _ (P : ℕ → Bool) (n asked h x left : ℕ) (few : h ≤ n) (tall : 0 < h) (L : IsLeft P n asked h x left) where
+  fits : (x + 1) * 2 ^ h ≤ 2 ^ n
+  fits = left-fits P n asked h x left few L
+
+  abbrev off : ℕ
+  off = countBeginning P n (h - 1) (x * 2)
+
+  abbrev half : ℕ
+  half = 2 ^ (h - 1)
+
+  halves : 2 ^ h ≡ half + half
+  halves = pow-halves h tall
+
+  from : x * 2 * half ≡ x * 2 ^ h
+  from = rw halves (omega arith)
+
+  to : (x * 2 + 1 + 1) * half ≡ (x + 1) * 2 ^ h
+  to = rw halves (omega arith)
+
+  off-span : countBelow P (x * 2 * half) + off ≡ countBelow P ((x * 2 + 1) * half)
+  off-span = beginning-span P n (h - 1) (x * 2) (omega (arith, to, fits))
+
+  pub left-off : left < off → IsLeft P n asked (h - 1) (x * 2) left
+  left-off l = record { less = rw from (L .less); below = l }
+
+  pub left-on : off ≤ left → IsLeft P n asked (h - 1) (x * 2 + 1) (left - off)
+  left-on l =
+      let start = ap (countBelow P) from in
+      record {
+        less = omega (arith, L .less, off-span, start);
+        below = omega (arith, L .below, off-span, start, ap (countBelow P) to, beginning-span P n h x fits, beginning-span P n (h - 1) (x * 2 + 1) (omega (arith, to, fits)));
+      }
+
+-- after the last setting: the setup with the rank asked
+pub left-last : (P : ℕ → Bool) (n asked x left : ℕ) → IsLeft P n asked 0 x left → Selected P (2 ^ n) asked x
+unfolding countBelow indicator
+left-last P n asked x left L = go (P x) refl
+  where
+    fits : (x + 1) * 2 ^ 0 ≤ 2 ^ n
+    fits = left-fits P n asked 0 x left (omega arith) L
+
+    whole : countBelow P (x * 2 ^ 0) ≡ countBelow P x
+    whole = let q : x * 2 ^ 0 ≡ x = omega arith in ap (countBelow P) q
+
+    one : countBelow P ((x + 1) * 2 ^ 0) ≡ countBelow P x + indicator (P x)
+    one = let q : (x + 1) * 2 ^ 0 ≡ suc x = omega arith in ap (countBelow P) q
+
+    span : countBelow P (x * 2 ^ 0) + countBeginning P n 0 x ≡ countBelow P ((x + 1) * 2 ^ 0)
+    span = beginning-span P n 0 x fits
+
+    go : (b : Bool) → P x ≡ b → Selected P (2 ^ n) asked x
+    go true p = record { below = omega (arith, fits); passes = p; rank = omega (arith, L .less, L .below, whole, one, span, ap indicator p) }
+    go false p = absurd (omega (arith, L .below, whole, one, span, ap indicator p))
+
+-- the setup of rank r, after all but its last h settings
+pub selected-left : (P : ℕ → Bool) (n r x : ℕ) → Selected P (2 ^ n) r x → (h : ℕ) → h ≤ n → IsLeft P n r h (x / 2 ^ h) (r - countBelow P (x / 2 ^ h * 2 ^ h))
+selected-left P n r x S h few =
+    let c = x / 2 ^ h in
+    let next : (c + 1) * 2 ^ h ≡ c * 2 ^ h + 2 ^ h = omega arith in
+    let before = count-mono P {a = c * 2 ^ h} {b = x} (low h c x) in
+    let after = count-mono-lt P {a = x} {b = (c + 1) * 2 ^ h} (S .passes) (omega (arith, high h c x)) in
+    let span = beginning-span P n h c (block-fits n h c few (omega (arith, low h c x, S .below))) in
+    record { less = omega (arith, before, S .rank); below = omega (arith, before, after, S .rank, span) }
+
+-- no other settings leave a number, and these leave one only
+module _ (P : ℕ → Bool) (n r h : ℕ) (few : h ≤ n) where
+  not-before : (x y a b : ℕ) → IsLeft P n r h x a → IsLeft P n r h y b → x < y → ⊥
+  not-before x y a b L M l =
+      let u : x + 1 ≤ y = omega arith in
+      omega (arith, L .less, L .below, M .less, beginning-span P n h x (left-fits P n r h x a few L), count-mono P (mul-le-mul-right (2 ^ h) u))
+
+  pub left-once : (x y a b : ℕ) → IsLeft P n r h x a → IsLeft P n r h y b → (x ≡ y) × (a ≡ b)
+  left-once x y a b L M =
+      elim (tri x y) [
+        | less l ↦ absurd (not-before x y a b L M l)
+        | same e ↦ let q : countBelow P (x * 2 ^ h) ≡ countBelow P (y * 2 ^ h) = rw e in (e, omega (arith, L .less, M .less, q))
+        | more l ↦ absurd (not-before y x b a M L l)
+      ]
