@@ -16,7 +16,7 @@ use Rattle.diagram.specs.Count.{countBelow}
 use Rattle.diagram.proofs.CountLaws.{count-le}
 use Rattle.ranking.specs.declared.descent.Way.{Way}
 use Rattle.ranking.specs.Inner.{Chosen, ChosenBy, Advances}
-use Rattle.ranking.proofs.Settings.{beginning-span}
+use Rattle.ranking.proofs.Beginning.{beginning-span}
 use Rattle.ranking.proofs.Choosing.{chosen-fits, chosen-counts, chosen-last, digits-fit}
 use Rattle.ranking.proofs.Ways.{at-top}
 use Rattle.lists.specs.Inner.{Entry, Trail, Follows, Reaches}

@@ -21,7 +21,8 @@ use Rattle.diagram.proofs.Cofactor.{cofactor-off, cofactor-on}
 use Rattle.counting.specs.Inner.{Opens}
 use Rattle.ranking.specs.Settings.{countBeginning}
 use Rattle.ranking.specs.Inner.{Chosen, IsChoice}
-use Rattle.ranking.proofs.Settings.{beginning-is, left-first, left-fits, left-off, left-on, left-last}
+use Rattle.ranking.proofs.Beginning.{beginning-is}
+use Rattle.ranking.proofs.Settings.{left-first, left-fits, left-off, left-on, left-last}
 
 -- before the first setting
 pub chosen-first : (w : Words) (n root asked : ℕ) → asked < countBelow (under w root) (2 ^ n) → Chosen w n root asked n root asked 0

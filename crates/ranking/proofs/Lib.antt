@@ -2,6 +2,7 @@
 pub mod Gap
 pub mod Stepping
 pub mod Below
+pub mod Beginning
 pub mod Settings
 pub mod Choosing
 pub mod Opening

@@ -1,71 +1,17 @@
 -- Unranking, setting by setting, over any test: how the number left goes on by one setting, and that it is that of the setup found, after each. Assumes nothing.
 use Prim.Native.Nat.{ℕ, suc, _+_, _-_, _*_, _/_, _^_, _≤_, _<_}
-use mathlib.Core.Path.{_≡_, refl, sym, ap, _∙_}
-use mathlib.Core.Bool.{Bool, true, false, _&&_, and-true, and-false}
-use native.Mathlib.Nat.{div-eq-of-lt-le, div-mul-le-self, lt-div-mul-add, mul-le-mul-right}
+use mathlib.Core.Path.{_≡_, refl, ap}
+use mathlib.Core.Bool.{Bool, true, false, _&&_, and-false}
+use native.Mathlib.Nat.{mul-le-mul-right}
 use native.Mathlib.Omega.{arith}
 use lib.Dec.{eqb}
-use lib.Pow.{pow-pos, pow-add}
-use borrow.Author.Tests.{eq-eqb, ne-eqb}
 use Rattle.words.proofs.Cases.{less, same, more, tri}
 use Rattle.diagram.specs.Count.{indicator, countBelow}
 use Rattle.diagram.proofs.Bits.{pow-halves}
-use Rattle.diagram.proofs.CountLaws.{count-cong, count-none, count-add, count-mono, count-mono-lt}
+use Rattle.diagram.proofs.CountLaws.{count-none, count-mono, count-mono-lt}
 use Rattle.diagram.proofs.Select.{Selected}
 use Rattle.ranking.specs.Settings.{countBeginning, IsLeft}
-
--- where the first settings are those of x
-begins : (h x y : ℕ) → x * 2 ^ h ≤ y → y < (x + 1) * 2 ^ h → eqb (y / 2 ^ h) x ≡ true
-begins h x y l u = eq-eqb (y / 2 ^ h) x (div-eq-of-lt-le (2 ^ h) l u)
-
--- ... and where not
-module _ (h x y : ℕ) where
-  low : y / 2 ^ h * 2 ^ h ≤ y
-  low = div-mul-le-self y (2 ^ h)
-
-  high : y < y / 2 ^ h * 2 ^ h + 2 ^ h
-  high = lt-div-mul-add (pow-pos h)
-
-  begins-below : y < x * 2 ^ h → eqb (y / 2 ^ h) x ≡ false
-  begins-below l = ne-eqb (y / 2 ^ h) x (λ e. let q : y / 2 ^ h * 2 ^ h ≡ x * 2 ^ h = rw e in omega (arith, q, low))
-
-  begins-above : (x + 1) * 2 ^ h ≤ y → eqb (y / 2 ^ h) x ≡ false
-  begins-above l = ne-eqb (y / 2 ^ h) x (λ e. let q : y / 2 ^ h * 2 ^ h ≡ x * 2 ^ h = rw e in omega (arith, q, high))
-
--- the setups that begin so come one after the other
-module _ (P : ℕ → Bool) (n h x : ℕ) (fits : (x + 1) * 2 ^ h ≤ 2 ^ n) where
-  abbrev base : ℕ
-  base = x * 2 ^ h
-
-  abbrev rest : ℕ
-  rest = 2 ^ n - (x + 1) * 2 ^ h
-
-  abbrev Q : ℕ → Bool
-  Q y = P y && eqb (y / 2 ^ h) x
-
-  pub beginning-is : countBeginning P n h x ≡ countBelow (λ y. P (base + y)) (2 ^ h)
-  unfolding countBeginning
-  beginning-is =
-      let all : 2 ^ n ≡ base + (2 ^ h + rest) = omega arith in
-      let before = count-none Q base (λ y l. rw (begins-below h x y l) (and-false (P y))) in
-      let so = count-cong (λ y. Q (base + y)) (λ y. P (base + y)) (2 ^ h) (λ y l. rw (begins h x (base + y) (omega arith) (omega arith)) (and-true (P (base + y)))) in
-      let after = count-none (λ y. Q (base + (2 ^ h + y))) rest (λ y l. rw (begins-above h x (base + (2 ^ h + y)) (omega arith)) (and-false (P (base + (2 ^ h + y))))) in
-      ap (countBelow Q) all ∙ omega (arith, count-add Q base (2 ^ h + rest), count-add (λ y. Q (base + y)) (2 ^ h) rest, before, so, after)
-
-  pub beginning-span : countBelow P base + countBeginning P n h x ≡ countBelow P ((x + 1) * 2 ^ h)
-  beginning-span =
-      let end : base + 2 ^ h ≡ (x + 1) * 2 ^ h = omega arith in
-      rw beginning-is (sym (count-add P base (2 ^ h)) ∙ ap (countBelow P) end)
-
--- 2 ^ n is whole blocks of 2 ^ h
-block-fits : (n h x : ℕ) → h ≤ n → x * 2 ^ h < 2 ^ n → (x + 1) * 2 ^ h ≤ 2 ^ n
-block-fits n h x few l =
-    let blocks : 2 ^ (n - h) * 2 ^ h ≡ 2 ^ n = let q : n - h + h ≡ n = omega arith in sym (pow-add 2 (n - h) h) ∙ ap (λ (m : ℕ). 2 ^ m) q in
-    elim (tri x (2 ^ (n - h))) [
-      | less u ↦ let v : x + 1 ≤ 2 ^ (n - h) = omega arith in rw (← blocks) (mul-le-mul-right (2 ^ h) v)
-      | same e ↦ let q : x * 2 ^ h ≡ 2 ^ (n - h) * 2 ^ h = rw e in absurd (omega (arith, q, blocks))
-      | more u ↦ let v : 2 ^ (n - h) ≤ x = omega arith in absurd (omega (arith, blocks, mul-le-mul-right (2 ^ h) v))
-    ]
+use Rattle.ranking.proofs.Beginning.{low, high, begins-above, beginning-span, block-fits}
 
 -- before the first setting
 pub left-first : (P : ℕ → Bool) (n asked : ℕ) → asked < countBelow P (2 ^ n) → IsLeft P n asked n 0 asked
@@ -84,7 +30,7 @@ left-fits P n asked h x left few L =
   where
     none : 2 ^ n ≤ x * 2 ^ h → ⊥
     none l =
-        let z = count-none (λ y. P y && eqb (y / 2 ^ h) x) (2 ^ n) (λ y u. rw (begins-below h x y (omega arith)) (and-false (P y))) in
+        let z = count-none (λ y. P y && eqb (y / 2 ^ h) x) (2 ^ n) (λ y u. rw (begins-above h y x (omega arith)) (and-false (P y))) in
         omega (arith, z, L .below)
 
 -- one setting more: compared with how many begin with the settings so far and then a 0, and lessened by them
@@ -147,9 +93,9 @@ pub selected-left : (P : ℕ → Bool) (n r x : ℕ) → Selected P (2 ^ n) r x 
 selected-left P n r x S h few =
     let c = x / 2 ^ h in
     let next : (c + 1) * 2 ^ h ≡ c * 2 ^ h + 2 ^ h = omega arith in
-    let before = count-mono P {a = c * 2 ^ h} {b = x} (low h c x) in
-    let after = count-mono-lt P {a = x} {b = (c + 1) * 2 ^ h} (S .passes) (omega (arith, high h c x)) in
-    let span = beginning-span P n h c (block-fits n h c few (omega (arith, low h c x, S .below))) in
+    let before = count-mono P {a = c * 2 ^ h} {b = x} (low h x) in
+    let after = count-mono-lt P {a = x} {b = (c + 1) * 2 ^ h} (S .passes) (omega (arith, high h x)) in
+    let span = beginning-span P n h c (block-fits n h c few (omega (arith, low h x, S .below))) in
     record { less = omega (arith, before, S .rank); below = omega (arith, before, after, S .rank, span) }
 
 -- no other settings leave a number, and these leave one only
