@@ -1,7 +1,8 @@
--- The samples, those of lists and of sheets, and that demand 3 is not empty.
+-- The samples, those of lists, of sheets and of the way down, and that demand 3 is not empty.
 pub mod PartSamples
 pub mod PartsOfA
 pub mod Samples
 pub mod Calls
 pub mod Lists
 pub mod Sheets
+pub mod Settings

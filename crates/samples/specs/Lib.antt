@@ -3,3 +3,4 @@ pub mod Samples
 pub mod Calls
 pub mod Lists
 pub mod Sheets
+pub mod Settings
