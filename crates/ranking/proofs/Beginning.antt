@@ -9,6 +9,7 @@ use lib.Pow.{pow-pos, pow-add}
 use borrow.Author.Tests.{eq-eqb, ne-eqb}
 use Rattle.words.proofs.Cases.{less, same, more, tri}
 use Rattle.diagram.specs.Count.{countBelow}
+use Rattle.diagram.proofs.Bits.{pow-halves}
 use Rattle.diagram.proofs.CountLaws.{count-cong, count-none, count-add}
 use Rattle.ranking.specs.Settings.{countBeginning}
 
@@ -55,6 +56,20 @@ module _ (P : ℕ → Bool) (n h x : ℕ) (fits : (x + 1) * 2 ^ h ≤ 2 ^ n) whe
   beginning-span =
       let end : base + 2 ^ h ≡ (x + 1) * 2 ^ h = omega arith in
       rw beginning-is (sym (count-add P base (2 ^ h)) ∙ ap (countBelow P) end)
+
+-- one setting more, off or on
+module _ (h x : ℕ) (tall : 0 < h) where
+  halves : 2 ^ h ≡ 2 ^ (h - 1) + 2 ^ (h - 1)
+  halves = pow-halves h tall
+
+  pub from-off : x * 2 * 2 ^ (h - 1) ≡ x * 2 ^ h
+  from-off = rw halves (omega arith)
+
+  pub from-on : (x * 2 + 1) * 2 ^ (h - 1) ≡ x * 2 ^ h + 2 ^ (h - 1)
+  from-on = rw halves (omega arith)
+
+  pub to-on : (x * 2 + 1 + 1) * 2 ^ (h - 1) ≡ (x + 1) * 2 ^ h
+  to-on = rw halves (omega arith)
 
 -- 2 ^ n is whole blocks of 2 ^ h
 pub block-fits : (n h x : ℕ) → h ≤ n → x * 2 ^ h < 2 ^ n → (x + 1) * 2 ^ h ≤ 2 ^ n

@@ -21,7 +21,7 @@ use Rattle.diagram.proofs.Cofactor.{cofactor-off, cofactor-on}
 use Rattle.counting.specs.Inner.{Opens}
 use Rattle.ranking.specs.Settings.{countBeginning}
 use Rattle.ranking.specs.Inner.{Chosen, IsChoice}
-use Rattle.ranking.proofs.Beginning.{beginning-is}
+use Rattle.ranking.proofs.Beginning.{beginning-is, from-off, from-on, to-on}
 use Rattle.ranking.proofs.Settings.{left-first, left-fits, left-off, left-on, left-last}
 
 -- before the first setting
@@ -56,35 +56,23 @@ module _ (t s : List ℕ) (n root asked h e left x : ℕ) (O : Opens t s e h) (t
   abbrev half : ℕ
   half = 2 ^ (h - 1)
 
-  abbrev base : ℕ
-  base = x * 2 ^ h
-
-  halves : 2 ^ h ≡ half + half
-  halves = pow-halves h tall
-
-  off-base : x * 2 * half ≡ base
-  off-base = rw halves (omega arith)
-
-  on-base : (x * 2 + 1) * half ≡ base + half
-  on-base = rw halves (omega arith)
-
-  fits : base + half + half ≤ 2 ^ n
-  fits = omega (arith, chosen-fits w n root asked h e left x C, halves)
+  fits : (x * 2 + 1) * half ≤ 2 ^ n
+  fits = omega (arith, to-on h x tall, chosen-fits w n root asked h e left x C)
 
   -- the digits chosen so far, and one more, fit 64 bits
   pub digits-fit : n ≤ 63 → x * 2 + 1 < 18446744073709551616
-  digits-fit l = omega (arith, on-base, fits, mul-le-mul-left (x * 2 + 1) (pow-pos (h - 1)), pow-lt {i = n} {j = 64} (omega arith))
+  digits-fit l = omega (arith, fits, mul-le-mul-left (x * 2 + 1) (pow-pos (h - 1)), pow-lt {i = n} {j = 64} (omega arith))
 
   -- the cofactors permit the two halves of what the edge does
   off-same : (y : ℕ) → y < half → under w (cofactor w h false e) y ≡ P (x * 2 * half + y)
   off-same y l =
-      cofactor-off w (W .settings) (W .nodes) (W .holds .ordered) e h (W .inside) (O .low) tall y l ∙ C .same y (omega (arith, halves))
-      ∙ ap (λ (b : ℕ). P (b + y)) (sym off-base)
+      cofactor-off w (W .settings) (W .nodes) (W .holds .ordered) e h (W .inside) (O .low) tall y l ∙ C .same y (omega (arith, pow-halves h tall))
+      ∙ ap (λ (b : ℕ). P (b + y)) (sym (from-off h x tall))
 
   on-same : (y : ℕ) → y < half → under w (cofactor w h true e) y ≡ P ((x * 2 + 1) * half + y)
   on-same y l =
-      let past : base + (half + y) ≡ (x * 2 + 1) * half + y = omega (arith, on-base) in
-      cofactor-on w (W .settings) (W .nodes) (W .holds .ordered) e h (W .inside) (O .low) tall y l ∙ C .same (half + y) (omega (arith, halves))
+      let past : x * 2 ^ h + (half + y) ≡ (x * 2 + 1) * half + y = omega (arith, from-on h x tall) in
+      cofactor-on w (W .settings) (W .nodes) (W .holds .ordered) e h (W .inside) (O .low) tall y l ∙ C .same (half + y) (omega (arith, pow-halves h tall))
       ∙ ap P past
 
   -- `off` setups begin with the settings so far and then a 0
@@ -92,7 +80,7 @@ module _ (t s : List ℕ) (n root asked h e left x : ℕ) (O : Opens t s e h) (t
     beginning-off : off ≡ countBeginning P n (h - 1) (x * 2)
     beginning-off =
         off-is ∙ count-cong (under w (cofactor w h false e)) (λ y. P (x * 2 * half + y)) half off-same
-        ∙ sym (beginning-is P n (h - 1) (x * 2) (omega (arith, fits, on-base)))
+        ∙ sym (beginning-is P n (h - 1) (x * 2) fits)
 
     chosen-off : left < off → Chosen w n root asked (h - 1) (cofactor w h false e) left (x * 2)
     chosen-off l = record {

@@ -7,11 +7,10 @@ use native.Mathlib.Omega.{arith}
 use lib.Dec.{eqb}
 use Rattle.words.proofs.Cases.{less, same, more, tri}
 use Rattle.diagram.specs.Count.{indicator, countBelow}
-use Rattle.diagram.proofs.Bits.{pow-halves}
 use Rattle.diagram.proofs.CountLaws.{count-none, count-mono, count-mono-lt}
 use Rattle.diagram.proofs.Select.{Selected}
 use Rattle.ranking.specs.Settings.{countBeginning, IsLeft}
-use Rattle.ranking.proofs.Beginning.{low, high, begins-above, beginning-span, block-fits}
+use Rattle.ranking.proofs.Beginning.{low, high, begins-above, beginning-span, from-off, to-on, block-fits}
 
 -- before the first setting
 pub left-first : (P : ℕ → Bool) (n asked : ℕ) → asked < countBelow P (2 ^ n) → IsLeft P n asked n 0 asked
@@ -44,27 +43,20 @@ module _ (P : ℕ → Bool) (n asked h x left : ℕ) (few : h ≤ n) (tall : 0 <
   abbrev half : ℕ
   half = 2 ^ (h - 1)
 
-  halves : 2 ^ h ≡ half + half
-  halves = pow-halves h tall
-
-  from : x * 2 * half ≡ x * 2 ^ h
-  from = rw halves (omega arith)
-
-  to : (x * 2 + 1 + 1) * half ≡ (x + 1) * 2 ^ h
-  to = rw halves (omega arith)
-
   off-span : countBelow P (x * 2 * half) + off ≡ countBelow P ((x * 2 + 1) * half)
-  off-span = beginning-span P n (h - 1) (x * 2) (omega (arith, to, fits))
+  off-span = beginning-span P n (h - 1) (x * 2) (omega (arith, to-on h x tall, fits))
 
   pub left-off : left < off → IsLeft P n asked (h - 1) (x * 2) left
-  left-off l = record { less = rw from (L .less); below = l }
+  left-off l = record { less = rw (from-off h x tall) (L .less); below = l }
 
   pub left-on : off ≤ left → IsLeft P n asked (h - 1) (x * 2 + 1) (left - off)
   left-on l =
-      let start = ap (countBelow P) from in
+      let start = ap (countBelow P) (from-off h x tall) in
+      let end = ap (countBelow P) (to-on h x tall) in
+      let on-span = beginning-span P n (h - 1) (x * 2 + 1) (omega (arith, to-on h x tall, fits)) in
       record {
         less = omega (arith, L .less, off-span, start);
-        below = omega (arith, L .below, off-span, start, ap (countBelow P) to, beginning-span P n h x fits, beginning-span P n (h - 1) (x * 2 + 1) (omega (arith, to, fits)));
+        below = omega (arith, L .below, beginning-span P n h x fits, off-span, on-span, start, end);
       }
 
 -- after the last setting: the setup with the rank asked

@@ -111,7 +111,7 @@ fn branch(table: &[u8], sheet: &[u8], way: Way) -> Way
     }
 }
 
-// Chooses the setting of height h.
+// Chooses the setting of height h: whatever rank was asked for, what holds of the number left (`IsLeft`) holds with a setting more.
 pub fn advance(table: &[u8], sheet: &[u8], way: Way, h: u64) -> Way
     requires { ⌜ Stands (now table) (now sheet) h way × (0 < h) × (way .digits < 2 ^ 63) ⌝ }
     ensures { λ r. ⌜ Advances (now (table .entry)) (now (sheet .entry)) h way r ⌝ }
