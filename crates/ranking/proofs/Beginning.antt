@@ -13,7 +13,7 @@ use Rattle.diagram.proofs.Bits.{pow-halves}
 use Rattle.diagram.proofs.CountLaws.{count-cong, count-none, count-add}
 use Rattle.ranking.specs.Settings.{countBeginning}
 
--- the setups that begin with the settings of y
+-- setup y is one of those that begin as it does, but for the last h settings
 module _ (h y : ℕ) where
   pub low : y / 2 ^ h * 2 ^ h ≤ y
   low = div-mul-le-self y (2 ^ h)
@@ -21,16 +21,16 @@ module _ (h y : ℕ) where
   pub high : y < y / 2 ^ h * 2 ^ h + 2 ^ h
   high = lt-div-mul-add (pow-pos h)
 
-  -- whether y begins with those of x
+  -- whether it begins with the settings x
   module _ (x : ℕ) where
     begins : x * 2 ^ h ≤ y → y < (x + 1) * 2 ^ h → eqb (y / 2 ^ h) x ≡ true
     begins l u = eq-eqb (y / 2 ^ h) x (div-eq-of-lt-le (2 ^ h) l u)
 
-    pub begins-above : y < x * 2 ^ h → eqb (y / 2 ^ h) x ≡ false
-    begins-above l = ne-eqb (y / 2 ^ h) x (λ e. let q : y / 2 ^ h * 2 ^ h ≡ x * 2 ^ h = rw e in omega (arith, q, low))
+    pub begins-not-yet : y < x * 2 ^ h → eqb (y / 2 ^ h) x ≡ false
+    begins-not-yet l = ne-eqb (y / 2 ^ h) x (λ e. let q : y / 2 ^ h * 2 ^ h ≡ x * 2 ^ h = rw e in omega (arith, q, low))
 
-    begins-below : (x + 1) * 2 ^ h ≤ y → eqb (y / 2 ^ h) x ≡ false
-    begins-below l = ne-eqb (y / 2 ^ h) x (λ e. let q : y / 2 ^ h * 2 ^ h ≡ x * 2 ^ h = rw e in omega (arith, q, high))
+    begins-no-more : (x + 1) * 2 ^ h ≤ y → eqb (y / 2 ^ h) x ≡ false
+    begins-no-more l = ne-eqb (y / 2 ^ h) x (λ e. let q : y / 2 ^ h * 2 ^ h ≡ x * 2 ^ h = rw e in omega (arith, q, high))
 
 -- the setups that begin so come one after the other
 module _ (P : ℕ → Bool) (n h x : ℕ) (fits : (x + 1) * 2 ^ h ≤ 2 ^ n) where
@@ -47,9 +47,9 @@ module _ (P : ℕ → Bool) (n h x : ℕ) (fits : (x + 1) * 2 ^ h ≤ 2 ^ n) whe
   unfolding countBeginning
   beginning-is =
       let all : 2 ^ n ≡ base + (2 ^ h + rest) = omega arith in
-      let before = count-none Q base (λ y l. rw (begins-above h y x l) (and-false (P y))) in
+      let before = count-none Q base (λ y l. rw (begins-not-yet h y x l) (and-false (P y))) in
       let so = count-cong (λ y. Q (base + y)) (λ y. P (base + y)) (2 ^ h) (λ y l. rw (begins h (base + y) x (omega arith) (omega arith)) (and-true (P (base + y)))) in
-      let after = count-none (λ y. Q (base + (2 ^ h + y))) rest (λ y l. rw (begins-below h (base + (2 ^ h + y)) x (omega arith)) (and-false (P (base + (2 ^ h + y))))) in
+      let after = count-none (λ y. Q (base + (2 ^ h + y))) rest (λ y l. rw (begins-no-more h (base + (2 ^ h + y)) x (omega arith)) (and-false (P (base + (2 ^ h + y))))) in
       ap (countBelow Q) all ∙ omega (arith, count-add Q base (2 ^ h + rest), count-add (λ y. Q (base + y)) (2 ^ h) rest, before, so, after)
 
   pub beginning-span : countBelow P base + countBeginning P n h x ≡ countBelow P ((x + 1) * 2 ^ h)

@@ -10,7 +10,7 @@ use Rattle.diagram.specs.Count.{indicator, countBelow}
 use Rattle.diagram.proofs.CountLaws.{count-none, count-mono, count-mono-lt}
 use Rattle.diagram.proofs.Select.{Selected}
 use Rattle.ranking.specs.Settings.{countBeginning, IsLeft}
-use Rattle.ranking.proofs.Beginning.{low, high, begins-above, beginning-span, from-off, to-on, block-fits}
+use Rattle.ranking.proofs.Beginning.{low, high, begins-not-yet, beginning-span, from-off, to-on, block-fits}
 
 -- before the first setting
 pub left-first : (P : ℕ → Bool) (n asked : ℕ) → asked < countBelow P (2 ^ n) → IsLeft P n asked n 0 asked
@@ -29,7 +29,7 @@ left-fits P n asked h x left few L =
   where
     none : 2 ^ n ≤ x * 2 ^ h → ⊥
     none l =
-        let z = count-none (λ y. P y && eqb (y / 2 ^ h) x) (2 ^ n) (λ y u. rw (begins-above h y x (omega arith)) (and-false (P y))) in
+        let z = count-none (λ y. P y && eqb (y / 2 ^ h) x) (2 ^ n) (λ y u. rw (begins-not-yet h y x (omega arith)) (and-false (P y))) in
         omega (arith, z, L .below)
 
 -- one setting more: compared with how many begin with the settings so far and then a 0, and lessened by them
