@@ -15,11 +15,11 @@ use Rattle.ranking.specs.Settings.{countBeginning}
 
 -- setup y is one of those that begin as it does, but for the last h settings
 module _ (h y : ℕ) where
-  pub low : y / 2 ^ h * 2 ^ h ≤ y
-  low = div-mul-le-self y (2 ^ h)
+  pub own-start : y / 2 ^ h * 2 ^ h ≤ y
+  own-start = div-mul-le-self y (2 ^ h)
 
-  pub high : y < y / 2 ^ h * 2 ^ h + 2 ^ h
-  high = lt-div-mul-add (pow-pos h)
+  pub own-end : y < y / 2 ^ h * 2 ^ h + 2 ^ h
+  own-end = lt-div-mul-add (pow-pos h)
 
   -- whether it begins with the settings x
   module _ (x : ℕ) where
@@ -27,10 +27,10 @@ module _ (h y : ℕ) where
     begins l u = eq-eqb (y / 2 ^ h) x (div-eq-of-lt-le (2 ^ h) l u)
 
     pub begins-not-yet : y < x * 2 ^ h → eqb (y / 2 ^ h) x ≡ false
-    begins-not-yet l = ne-eqb (y / 2 ^ h) x (λ e. let q : y / 2 ^ h * 2 ^ h ≡ x * 2 ^ h = rw e in omega (arith, q, low))
+    begins-not-yet l = ne-eqb (y / 2 ^ h) x (λ e. let q : y / 2 ^ h * 2 ^ h ≡ x * 2 ^ h = rw e in omega (arith, q, own-start))
 
     begins-no-more : (x + 1) * 2 ^ h ≤ y → eqb (y / 2 ^ h) x ≡ false
-    begins-no-more l = ne-eqb (y / 2 ^ h) x (λ e. let q : y / 2 ^ h * 2 ^ h ≡ x * 2 ^ h = rw e in omega (arith, q, high))
+    begins-no-more l = ne-eqb (y / 2 ^ h) x (λ e. let q : y / 2 ^ h * 2 ^ h ≡ x * 2 ^ h = rw e in omega (arith, q, own-end))
 
 -- the setups that begin so come one after the other
 module _ (P : ℕ → Bool) (n h x : ℕ) (fits : (x + 1) * 2 ^ h ≤ 2 ^ n) where

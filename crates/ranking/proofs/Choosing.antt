@@ -22,7 +22,7 @@ use Rattle.counting.specs.Inner.{Opens}
 use Rattle.ranking.specs.Settings.{countBeginning}
 use Rattle.ranking.specs.Inner.{Chosen, IsChoice}
 use Rattle.ranking.proofs.Beginning.{beginning-is, from-off, from-on, to-on}
-use Rattle.ranking.proofs.Settings.{left-first, left-fits, left-off, left-on, left-last}
+use Rattle.ranking.proofs.Settings.{left-first, left-inside, left-off, left-on, left-last}
 
 -- before the first setting
 pub chosen-first : (w : Words) (n root asked : ℕ) → asked < countBelow (under w root) (2 ^ n) → Chosen w n root asked n root asked 0
@@ -37,7 +37,7 @@ chosen-first w n root asked l =
 -- the setups that begin as chosen are setups of n settings, and as many as the edge permits
 module _ (w : Words) (n root asked h e left x : ℕ) (C : Chosen w n root asked h e left x) where
   pub chosen-fits : (x + 1) * 2 ^ h ≤ 2 ^ n
-  chosen-fits = left-fits (under w root) n asked h x left (C .few) (C .number)
+  chosen-fits = left-inside (under w root) n asked h x left (C .few) (C .number)
 
   pub chosen-counts : countBeginning (under w root) n h x ≡ countBelow (under w e) (2 ^ h)
   chosen-counts = beginning-is (under w root) n h x chosen-fits ∙ sym (count-cong (under w e) (λ y. under w root (x * 2 ^ h + y)) (2 ^ h) (C .same))

@@ -1,16 +1,23 @@
--- Unranking, setting by setting, over any test: how the number left goes on by one setting, and that it is that of the setup found, after each. Assumes nothing.
+-- Unranking, setting by setting: how the number left goes on by one setting, over any test, and that it is left by every prefix of the answer and by nothing else. Assumes nothing.
 use Prim.Native.Nat.{ℕ, suc, _+_, _-_, _*_, _/_, _^_, _≤_, _<_}
 use mathlib.Core.Path.{_≡_, refl, ap}
 use mathlib.Core.Bool.{Bool, true, false, _&&_, and-false}
+use mathlib.Core.List.{List}
 use native.Mathlib.Nat.{mul-le-mul-right}
 use native.Mathlib.Omega.{arith}
 use lib.Dec.{eqb}
+use Rattle.words.specs.Words.{wordAt}
 use Rattle.words.proofs.Cases.{less, same, more, tri}
+use Rattle.diagram.specs.Format.{settings}
+use Rattle.diagram.specs.Meaning.{permitted}
 use Rattle.diagram.specs.Count.{indicator, countBelow}
+use Rattle.diagram.specs.Answer.{value}
 use Rattle.diagram.proofs.CountLaws.{count-none, count-mono, count-mono-lt}
 use Rattle.diagram.proofs.Select.{Selected}
+use Rattle.ranking.specs.Operations.{unranking}
 use Rattle.ranking.specs.Settings.{countBeginning, IsLeft}
-use Rattle.ranking.proofs.Beginning.{low, high, begins-not-yet, beginning-span, from-off, to-on, block-fits}
+use Rattle.ranking.proofs.Numbering.{unranked-has}
+use Rattle.ranking.proofs.Beginning.{own-start, own-end, begins-not-yet, beginning-span, from-off, to-on, block-fits}
 
 -- before the first setting
 pub left-first : (P : ℕ → Bool) (n asked : ℕ) → asked < countBelow P (2 ^ n) → IsLeft P n asked n 0 asked
@@ -22,9 +29,9 @@ left-first P n asked l =
     record { less = rw none (omega arith); below = omega (arith, span, ap (countBelow P) whole, ap (countBelow P) none) }
 
 -- a number is left: so some setup begins with these settings
-pub left-fits : (P : ℕ → Bool) (n asked h x left : ℕ) → h ≤ n → IsLeft P n asked h x left → (x + 1) * 2 ^ h ≤ 2 ^ n
+pub left-inside : (P : ℕ → Bool) (n asked h x left : ℕ) → h ≤ n → IsLeft P n asked h x left → (x + 1) * 2 ^ h ≤ 2 ^ n
 unfolding countBeginning
-left-fits P n asked h x left few L =
+left-inside P n asked h x left few L =
     elim (tri (x * 2 ^ h) (2 ^ n)) [ less l ↦ block-fits n h x few l | same e ↦ absurd (none (omega arith)) | more l ↦ absurd (none (omega arith)) ]
   where
     none : 2 ^ n ≤ x * 2 ^ h → ⊥
@@ -35,7 +42,7 @@ left-fits P n asked h x left few L =
 -- one setting more: compared with how many begin with the settings so far and then a 0, and lessened by them
 module _ (P : ℕ → Bool) (n asked h x left : ℕ) (few : h ≤ n) (tall : 0 < h) (L : IsLeft P n asked h x left) where
   fits : (x + 1) * 2 ^ h ≤ 2 ^ n
-  fits = left-fits P n asked h x left few L
+  fits = left-inside P n asked h x left few L
 
   abbrev off : ℕ
   off = countBeginning P n (h - 1) (x * 2)
@@ -65,7 +72,7 @@ unfolding countBelow indicator
 left-last P n asked x left L = go (P x) refl
   where
     fits : (x + 1) * 2 ^ 0 ≤ 2 ^ n
-    fits = left-fits P n asked 0 x left (omega arith) L
+    fits = left-inside P n asked 0 x left (omega arith) L
 
     whole : countBelow P (x * 2 ^ 0) ≡ countBelow P x
     whole = let q : x * 2 ^ 0 ≡ x = omega arith in ap (countBelow P) q
@@ -85,9 +92,9 @@ pub selected-left : (P : ℕ → Bool) (n r x : ℕ) → Selected P (2 ^ n) r x 
 selected-left P n r x S h few =
     let c = x / 2 ^ h in
     let next : (c + 1) * 2 ^ h ≡ c * 2 ^ h + 2 ^ h = omega arith in
-    let before = count-mono P {a = c * 2 ^ h} {b = x} (low h x) in
-    let after = count-mono-lt P {a = x} {b = (c + 1) * 2 ^ h} (S .passes) (omega (arith, high h x)) in
-    let span = beginning-span P n h c (block-fits n h c few (omega (arith, low h x, S .below))) in
+    let before = count-mono P {a = c * 2 ^ h} {b = x} (own-start h x) in
+    let after = count-mono-lt P {a = x} {b = (c + 1) * 2 ^ h} (S .passes) (omega (arith, own-end h x)) in
+    let span = beginning-span P n h c (block-fits n h c few (omega (arith, own-start h x, S .below))) in
     record { less = omega (arith, before, S .rank); below = omega (arith, before, after, S .rank, span) }
 
 -- no other settings leave a number, and these leave one only
@@ -95,7 +102,7 @@ module _ (P : ℕ → Bool) (n r h : ℕ) (few : h ≤ n) where
   not-before : (x y a b : ℕ) → IsLeft P n r h x a → IsLeft P n r h y b → x < y → ⊥
   not-before x y a b L M l =
       let u : x + 1 ≤ y = omega arith in
-      omega (arith, L .less, L .below, M .less, beginning-span P n h x (left-fits P n r h x a few L), count-mono P (mul-le-mul-right (2 ^ h) u))
+      omega (arith, L .less, L .below, M .less, beginning-span P n h x (left-inside P n r h x a few L), count-mono P (mul-le-mul-right (2 ^ h) u))
 
   pub left-once : (x y a b : ℕ) → IsLeft P n r h x a → IsLeft P n r h y b → (x ≡ y) × (a ≡ b)
   left-once x y a b L M =
@@ -104,3 +111,11 @@ module _ (P : ℕ → Bool) (n r h : ℕ) (few : h ≤ n) where
         | same e ↦ let q : countBelow P (x * 2 ^ h) ≡ countBelow P (y * 2 ^ h) = rw e in (e, omega (arith, L .less, M .less, q))
         | more l ↦ absurd (not-before y x b a M L l)
       ]
+
+-- of unranking: after the first p settings of the answer, for each p from 0 to n
+pub unranked-left : (t s : List ℕ) (x r : ℕ) → unranking t r s ≡ value x → (p : ℕ) → p ≤ settings (wordAt t)
+    → let h = settings (wordAt t) - p in (left : ℕ) × IsLeft (permitted (wordAt t)) (settings (wordAt t)) r h (x / 2 ^ h) left
+unranked-left t s x r e p l =
+    let w = wordAt t in
+    let h = settings w - p in
+    (r - countBelow (permitted w) (x / 2 ^ h * 2 ^ h), selected-left (permitted w) (settings w) r x (unranked-has t s x r e) h (omega arith))

@@ -9,7 +9,9 @@ use Rattle.diagram.specs.Count.{countBelow}
 unfoldable pub countBeginning : (ℕ → Bool) → ℕ → ℕ → ℕ → ℕ
 countBeginning P n h x = countBelow (λ y. P y && eqb (y / 2 ^ h) x) (2 ^ n)
 
--- after settings are chosen as the digits of x, h of n being left: the number left is the rank asked, less the count of permitted setups below all that begin as chosen (x * 2 ^ h is the least of these), and is below the count of permitted setups that begin so
+-- the number left of the rank asked, after settings are chosen as the digits of x, h of n being left
 pub record IsLeft (P : ℕ → Bool) (n asked h x left : ℕ) : Type 0 where
+  -- it is the rank asked, less the count of permitted setups below all that begin as chosen (x * 2 ^ h is the least of these)
   pub less : left + countBelow P (x * 2 ^ h) ≡ asked
+  -- and is below the count of permitted setups that begin so
   pub below : left < countBeginning P n h x
