@@ -32,12 +32,12 @@ kept : (w : Words) (n k : ℕ) → checkRecord w n k ≡ pass → Kept w n k
 unfolding checkRecord misled
 kept w n k e =
     let a = passed (eqb (height w k) 0 || ltb n (height w k)) refused-not e in
-    let b = passed (ltb 1 k && leb (w k) (w (k - 1))) refused-not (a .1) in
-    let c = passed (misled w k (thenEdge w k) || misled w k (elseEdge w k)) refused-not (b .1) in
+    let b = passed (misled w k (thenEdge w k) || misled w k (elseEdge w k)) refused-not (a .1) in
+    let c = passed (ltb 1 k && leb (w k) (w (k - 1))) refused-not (b .1) in
     let d = passed (eqb (thenEdge w k % 2) 1) refused-not (c .1) in
     let f = passed (eqb (thenEdge w k) (elseEdge w k)) refused-not (d .1) in
     let h = or-false (eqb (height w k) 0) (ltb n (height w k)) (a .0) in
-    let m = or-false (misled w k (thenEdge w k)) (misled w k (elseEdge w k)) (c .0) in
+    let m = or-false (misled w k (thenEdge w k)) (misled w k (elseEdge w k)) (b .0) in
     let t = or-false (leb k (thenEdge w k / 2)) (leb (height w k) (height w (thenEdge w k / 2))) (m .0) in
     let u = or-false (leb k (elseEdge w k / 2)) (leb (height w k) (height w (elseEdge w k / 2))) (m .1) in
     let o : thenEdge w k % 2 ≡ 1 → ⊥ = eqb-false (thenEdge w k % 2) 1 (d .0) in
@@ -45,7 +45,7 @@ kept w n k e =
     record {
       tall = omega arith;
       low = ltb-false n (height w k) (h .1);
-      above = b .0;
+      above = c .0;
       then-node = leb-false k (thenEdge w k / 2) (t .0);
       then-height = leb-false (height w k) (height w (thenEdge w k / 2)) (t .1);
       else-node = leb-false k (elseEdge w k / 2) (u .0);
@@ -163,9 +163,9 @@ module _ (w : Words) (n N : ℕ) (A : Proper w n N) where
       let f = elseEdge w (suc k) in
       rw (
         join-false (ne-eqb (height w (suc k)) 0 (λ z. omega arith)) (le-ltb n (height w (suc k)) (omega arith)),
-        and-false (ltb 1 (suc k)) (leb (w (suc k)) (w (suc k - 1))) (λ q. lt-leb (w (suc k)) (w (suc k - 1)) (before k l (ltb-true 1 (suc k) q))),
         join-false (lt-leb (suc k) (e / 2) (omega arith)) (lt-leb (height w (suc k)) (height w (e / 2)) (D .then-height k l)),
         join-false (lt-leb (suc k) (f / 2) (omega arith)) (lt-leb (height w (suc k)) (height w (f / 2)) (D .else-height k l)),
+        and-false (ltb 1 (suc k)) (leb (w (suc k)) (w (suc k - 1))) (λ q. lt-leb (w (suc k)) (w (suc k - 1)) (before k l (ltb-true 1 (suc k) q))),
         ne-eqb (e % 2) 1 (λ z. omega (arith, A .reduced .then-plain k l)),
         ne-eqb e f (A .reduced .differ k l),
       )

@@ -65,8 +65,8 @@ unfolding checkRecords checkRecord
 records-refuse w n N = each-refuses (Early N) (λ k. checkRecord w n (suc k)) N λ i l.
     let k = suc i in
     unless (Early N) (eqb (height w k) 0 || ltb n (height w k)) 4 k (λ e. omega arith, l, omega arith)
-    (unless (Early N) (ltb 1 k && leb (w k) (w (k - 1))) 5 k (λ e. omega arith, l, omega arith)
     (unless (Early N) (misled w k (thenEdge w k) || misled w k (elseEdge w k)) 6 k (λ e. omega arith, l, omega arith)
+    (unless (Early N) (ltb 1 k && leb (w k) (w (k - 1))) 5 k (λ e. omega arith, l, omega arith)
     (unless (Early N) (eqb (thenEdge w k % 2) 1) 7 k (λ e. omega arith, l, omega arith)
     (unless (Early N) (eqb (thenEdge w k) (elseEdge w k)) 8 k (λ e. omega arith, l, omega arith)
     (passes (Early N) tt)))))

@@ -14,12 +14,12 @@ use Rattle.diagram.specs.Answer.{Answer, value, refusal, andThen, pass, 
 unfoldable pub misled : Words → ℕ → ℕ → Bool
 misled w k e = leb k (e / 2) || leb (height w k) (height w (e / 2))
 
--- rules 4 to 8, of record k among n settings
+-- rules 4 to 8, of record k among n settings, tried as 4, 6, 5, 7, 8
 unfoldable pub checkRecord : Words → ℕ → ℕ → Answer (Unit {0})
 checkRecord w n k =
     cond (eqb (height w k) 0 || ltb n (height w k)) (refusal 4 k)
-    (cond (ltb 1 k && leb (w k) (w (k - 1))) (refusal 5 k)
     (cond (misled w k (thenEdge w k) || misled w k (elseEdge w k)) (refusal 6 k)
+    (cond (ltb 1 k && leb (w k) (w (k - 1))) (refusal 5 k)
     (cond (eqb (thenEdge w k % 2) 1) (refusal 7 k)
     (cond (eqb (thenEdge w k) (elseEdge w k)) (refusal 8 k)
     pass))))

@@ -88,8 +88,8 @@ module _ (w : Words) (n k i : ℕ) (p : 0 < k) (few : k ≤ 268435455) (first : 
       let v = w (suc i) in
       rw (
         join-false (ne-eqb (height w (suc i)) 0 (λ z. omega (arith, level))) (le-ltb n (height w (suc i)) (omega (arith, level))),
-        and-false (ltb 1 (suc i)) (leb v (w (suc i - 1))) (λ _. rw q (lt-leb v (w i) (f .ascends))),
         join-false (leads-lower (middleField v) (middle-below (w k) v (2 * k) (omega arith) (omega (arith, f .ascends)) limited)) (leads-lower (lowField v) (f .else-below)),
+        and-false (ltb 1 (suc i)) (leb v (w (suc i - 1))) (λ _. rw q (lt-leb v (w i) (f .ascends))),
         ne-eqb (middleField v % 2) 1 (λ z. omega (arith, f .then-plain)),
         ne-eqb (middleField v) (lowField v) (f .differ),
       )

@@ -1,12 +1,13 @@
--- Rules 4 to 8 of a record, each where those before it passed, in the terms of the code. Assumes nothing.
-use Prim.Native.Nat.{ℕ, zero, suc, _-_, _%_, _≤_, _<_}
+-- Rules 4 to 8 of a record, by the tests that the code makes. Assumes nothing.
+use Prim.Native.Nat.{ℕ, zero, suc, _-_, _%_, _<_}
 use mathlib.Core.Path.{_≡_, sym, _∙_}
 use mathlib.Core.Bool.{Bool, true, false, cond, _&&_, _||_}
 use native.Mathlib.Omega.{arith}
 use lib.Dec.{eqb, ltb, leb}
-use borrow.Author.Tests.{lt-ltb, le-ltb, lt-leb, eq-eqb, ne-eqb}
+use borrow.Author.Tests.{lt-ltb, lt-leb, eqb-false}
+use Rattle.words.proofs.Cases.{or-false}
 use Rattle.diagram.specs.Format.{Words, highField}
-use Rattle.diagram.specs.Answer.{Answer, refusal, pass}
+use Rattle.diagram.specs.Answer.{refusal, pass}
 use Rattle.diagram.specs.Rules.{misled, checkRecord}
 use Rattle.diagram.specs.Reading.{HasFields, IsRecord}
 use Rattle.diagram.proofs.Fields.{fields-record}
@@ -22,70 +23,12 @@ module _ (w : Words) (n k h a b word before : ℕ) (p : 0 < k) (word-is : word �
   pub fields-of : IsRecord w k h a b
   fields-of = fields-record w k word h a b p word-is F
 
-  -- what is left after each rule
-  left8 : Answer (Unit {0})
-  left8 = cond (eqb a b) (refusal 8 k) pass
-
-  left7 : Answer (Unit {0})
-  left7 = cond (eqb (a % 2) 1) (refusal 7 k) left8
-
-  left6 : Answer (Unit {0})
-  left6 = cond (misled w k a || misled w k b) (refusal 6 k) left7
-
-  left5 : Answer (Unit {0})
-  left5 = cond (leb word before) (refusal 5 k) left6
-
-  pub no-height : h ≡ 0 → refusal 4 k ≡ checkRecord w n k
-  unfolding checkRecord
-  no-height e = rw (← fields-of .height-is, eq-eqb h 0 e)
-
-  module _ (tall : h ≡ 0 → ⊥) where
-    at4 : checkRecord w n k ≡ cond (ltb n h) (refusal 4 k) left5
-    unfolding checkRecord left5 left6 left7 left8 highField
-    at4 =
-        let q : leb word before ≡ (ltb 1 k && leb (w k) (w (k - 1))) = above-nothing word before (w (k - 1)) k p (omega (arith, F .high-is)) before-is ∙ rw word-is in
-        rw (← fields-of .height-is, ← fields-of .then-is, ← fields-of .else-is, ne-eqb h 0 tall, ← q)
-
-    pub too-tall : n < h → refusal 4 k ≡ checkRecord w n k
-    too-tall l = sym (at4 ∙ rw (lt-ltb n h l))
-
-    module _ (low : h ≤ n) where
-      at5 : checkRecord w n k ≡ left5
-      at5 = at4 ∙ rw (le-ltb n h low)
-
-      -- the next two tests, f and c
-      module _ (f : Bool) (f-is : f ≡ leb word before) (c : Bool) (c-is : c ≡ (misled w k a || misled w k b)) where
-        pub falls : f ≡ true → refusal 5 k ≡ checkRecord w n k
-        unfolding left5
-        falls e = sym (at5 ∙ rw (sym f-is ∙ e))
-
-        module _ (f-no : f ≡ false) where
-          at6 : checkRecord w n k ≡ left6
-          unfolding left5
-          at6 = at5 ∙ rw (sym f-is ∙ f-no)
-
-          pub leads-up : c ≡ true → refusal 6 k ≡ checkRecord w n k
-          unfolding left6
-          leads-up e = sym (at6 ∙ rw (sym c-is ∙ e))
-
-          module _ (c-no : c ≡ false) (g : Bool) (g-is : g ≡ eqb (a % 2) 1) where
-            at7 : checkRecord w n k ≡ left7
-            unfolding left6
-            at7 = at6 ∙ rw (sym c-is ∙ c-no)
-
-            pub then-flagged : g ≡ true → refusal 7 k ≡ checkRecord w n k
-            unfolding left7
-            then-flagged e = sym (at7 ∙ rw (sym g-is ∙ e))
-
-            module _ (g-no : g ≡ false) where
-              at8 : checkRecord w n k ≡ left8
-              unfolding left7
-              at8 = at7 ∙ rw (sym g-is ∙ g-no)
-
-              pub equal-edges : a ≡ b → refusal 8 k ≡ checkRecord w n k
-              unfolding left8
-              equal-edges e = sym (at8 ∙ rw (eq-eqb a b e))
-
-              pub all-kept : (a ≡ b → ⊥) → pass ≡ checkRecord w n k
-              unfolding left8
-              all-kept e = sym (at8 ∙ rw (ne-eqb a b e))
+  -- u tests the height, c the edges and f the order
+  pub by-tests : (u c f : Bool) → u ≡ (eqb h 0 || ltb n h) → c ≡ (misled w k a || misled w k b) → f ≡ leb word before
+      → checkRecord w n k ≡ cond u (refusal 4 k) (cond c (refusal 6 k) (cond f (refusal 5 k) (cond (eqb (a % 2) 1) (refusal 7 k) (cond (eqb a b) (refusal 8 k) pass))))
+  unfolding checkRecord highField
+  by-tests true c f u-is c-is f-is = rw (← fields-of .height-is, ← u-is)
+  by-tests false c f u-is c-is f-is =
+      let tall : h ≡ 0 → ⊥ = eqb-false h 0 (or-false (eqb h 0) (ltb n h) (sym u-is) .0) in
+      let q : f ≡ (ltb 1 k && leb (w k) (w (k - 1))) = f-is ∙ above-nothing word before (w (k - 1)) k p (omega (arith, F .high-is)) before-is ∙ rw word-is in
+      rw (← fields-of .height-is, ← fields-of .then-is, ← fields-of .else-is, ← u-is, ← c-is, ← q)

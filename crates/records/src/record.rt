@@ -2,6 +2,7 @@
 ghost use mathlib.Core.Path.{_≡_};
 ghost use mathlib.Core.Bool.{_||_};
 ghost use Prim.Native.Nat.{_+_, _*_, _≤_, _<_};
+ghost use lib.Dec.{eqb, ltb};
 ghost use lib.ListN.{length};
 ghost use Rattle.words.specs.Words.{wordAt};
 ghost use Rattle.diagram.specs.Format.{height};
@@ -37,26 +38,33 @@ fn has_misled(table: &[u8], k: Node, fields: Record) -> bool
     is_misled(table, k, fields.height, fields.low)
 }
 
-// Rules 4 to 8, of record k, which is `word` and comes after `before`.
+// Whether h is no height of a table of n settings.
+fn is_unfit(n: u64, h: u64) -> bool
+    ensures { λ r. ⌜ r ≡ (eqb h 0 || ltb n h) ⌝ }
+{
+    if h == 0 {
+        return true;
+    }
+    n < h
+}
+
+// Rules 4 to 8, of record k, which is `word` and comes after `before`. An edge's fault is named before the order's.
 pub fn check_record(table: &[u8], n: u64, k: Node, word: u64, before: u64) -> Verdict
     requires { ⌜ (0 < k .0) × (8 * k .0 + 8 ≤ length (now table)) × (word ≡ wordAt (now table) (k .0)) × (before ≡ previous (wordAt (now table)) (k .0)) ⌝ }
     ensures { λ r. ⌜ verdictAs r ≡ checkRecord (wordAt (now (table .entry))) n (k .0) ⌝ }
 {
     let record = Record::of(word);
-    let h = record.height;
-    if h == 0 {
-        return Verdict::Refused(Refusal::Height(k));
-    }
-    if n < h {
-        return Verdict::Refused(Refusal::Height(k));
-    }
-    let falls = word <= before;
+    let unfit = is_unfit(n, record.height);
     let misled = has_misled(table, k, record);
-    if falls {
-        return Verdict::Refused(Refusal::Order(k));
+    let falls = word <= before;
+    if unfit {
+        return Verdict::Refused(Refusal::Height(k));
     }
     if misled {
         return Verdict::Refused(Refusal::Target(k));
+    }
+    if falls {
+        return Verdict::Refused(Refusal::Order(k));
     }
     if record.high.flagged() {
         return Verdict::Refused(Refusal::ThenFlag(k));
