@@ -6,3 +6,4 @@ pub mod Answering
 pub mod Bounds
 pub mod Walking
 pub mod Blank
+pub mod EdgeFirst

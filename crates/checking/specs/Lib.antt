@@ -2,4 +2,5 @@
 pub mod Answers
 pub mod Operations
 pub mod Sheets
+pub mod EdgeFirst
 pub mod Inner

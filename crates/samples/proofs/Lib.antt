@@ -1,4 +1,4 @@
--- The samples, those of lists, of sheets and of the way down, and that demand 3 is not empty.
+-- The samples, those of lists, of sheets, of the way down and of the order of the rules, and that demand 3 is not empty.
 pub mod PartSamples
 pub mod PartsOfA
 pub mod Samples
@@ -6,3 +6,4 @@ pub mod Calls
 pub mod Lists
 pub mod Sheets
 pub mod Settings
+pub mod EdgeFirst

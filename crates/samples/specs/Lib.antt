@@ -4,3 +4,4 @@ pub mod Calls
 pub mod Lists
 pub mod Sheets
 pub mod Settings
+pub mod EdgeFirst
