@@ -137,6 +137,44 @@ pub fn break_last_record(rng: &mut Rng, words: &mut [u64], rules: &[u64]) {
     words[k as usize] = word(height, then_edge, else_edge);
 }
 
+/// Where an edge of rule 6 leads.
+#[derive(Clone, Copy)]
+pub enum Astray {
+    NotBelow,
+    ToGreaterHeight,
+    ToEqualHeight,
+}
+
+/// Makes a record break rules 5 and 6, with a permitted height and nothing but passing records
+/// before it. Gives back its number, if such a record was found.
+pub fn fall_astray(rng: &mut Rng, words: &mut [u64], astray: Astray) -> Option<u64> {
+    let last = words.len() as u64 - 1;
+    for _ in 0..if last < 2 { 0 } else { 100 } {
+        let k = rng.between(2, last);
+        let before = words[k as usize - 1];
+        let height = rng.between(1, fields(before).0);
+        let node = match astray {
+            Astray::NotBelow => rng.pick(&[k, k + 1, last, last + 1, (1 << 28) - 1]),
+            _ => rng.between(1, k - 1),
+        };
+        let leads_there = match astray {
+            Astray::NotBelow => node >= k,
+            Astray::ToGreaterHeight => fields(words[node as usize]).0 > height,
+            Astray::ToEqualHeight => fields(words[node as usize]).0 == height,
+        };
+        let mut edges = [2 * rng.below(k), 2 * node + rng.below(2)];
+        if rng.chance(50) {
+            edges.reverse();
+        }
+        let record = word(height, edges[0], edges[1]);
+        if leads_there && record <= before {
+            words[k as usize] = record;
+            return Some(k);
+        }
+    }
+    None
+}
+
 /// Puts one or two records on top of a table, with a fault of rule 3, 5, 7, 8 or 9, or without
 /// one. They leave it settled which setups are permitted, and the old root is still reached.
 pub fn fault_on_top(words: &mut Vec<u64>, refusal: u64) {

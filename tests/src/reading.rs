@@ -79,13 +79,13 @@ impl Table {
         let broken = [
             (4, record.height == 0 || record.height > self.n),
             (
-                5,
-                k > 1 && self.words[k as usize] <= self.words[k as usize - 1],
-            ),
-            (
                 6,
                 self.leads_too_high(k, record.then_edge)
                     || self.leads_too_high(k, record.else_edge),
+            ),
+            (
+                5,
+                k > 1 && self.words[k as usize] <= self.words[k as usize - 1],
             ),
             (7, record.then_edge.flag),
             (8, record.then_edge == record.else_edge),

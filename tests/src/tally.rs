@@ -7,8 +7,8 @@ use crate::sheets::Length;
 
 /// The refusals of every operation in the paper's order; of 1 its second place, since a table
 /// under 8 bytes has no other condition but 15, 17 and 18.
-const SHARED: [u64; 10] = [2, 1, 3, 10, 4, 5, 6, 7, 8, 9];
-const RECORD_RULES: [u64; 5] = [4, 5, 6, 7, 8];
+const SHARED: [u64; 10] = [2, 1, 3, 10, 4, 6, 5, 7, 8, 9];
+const RECORD_RULES: [u64; 5] = [4, 6, 5, 7, 8];
 const LAST_REFUSAL: u64 = 18;
 
 /// Each operation with the refusals of its own, which come last.

@@ -1,9 +1,9 @@
 //! The library against the paper: answers and every byte of sheet and out memory, all operations
 //! over tables of every kind.
 
-use setupbook_tests::call::{Call, List};
+use setupbook_tests::call::{Call, List, Refusal};
 use setupbook_tests::comparison::{random_part, Comparison};
-use setupbook_tests::damage;
+use setupbook_tests::damage::{self, Astray};
 use setupbook_tests::layout::{bytes_of, fields, word};
 use setupbook_tests::paper;
 use setupbook_tests::sheets;
@@ -24,6 +24,7 @@ fn library_agrees_with_the_paper() {
         ("one aimed fault", one_fault),
         ("several aimed faults", several_faults),
         ("several faults at one record", faulty_record),
+        ("rules 5 and 6 broken at one record", edge_before_order),
         ("turned bits", turned_bits),
         ("small random fields", small_fields),
         ("random words and bytes", random_bytes),
@@ -219,6 +220,27 @@ fn faulty_record(comparison: &mut Comparison) {
             let mut words = tables::of_any_size(&mut comparison.rng);
             damage::break_last_record(&mut comparison.rng, &mut words, &rules);
             comparison.compare_words(&words);
+        }
+    }
+}
+
+fn edge_before_order(comparison: &mut Comparison) {
+    for astray in [
+        Astray::NotBelow,
+        Astray::ToGreaterHeight,
+        Astray::ToEqualHeight,
+    ] {
+        let mut tables = 0;
+        while tables < 300 {
+            let mut words = tables::of_any_size(&mut comparison.rng);
+            let Some(place) = damage::fall_astray(&mut comparison.rng, &mut words, astray) else {
+                continue;
+            };
+            let table = bytes_of(&words);
+            let answer = comparison.compare_served(Call::Check, &table);
+            assert_eq!(answer.refusal(), Some(Refusal { number: 6, place }));
+            comparison.compare_all(&table);
+            tables += 1;
         }
     }
 }

@@ -76,6 +76,12 @@ fn refused_samples() -> Vec<(Vec<u8>, u64, u64)> {
         table(&a_with(2, 0x0800000080000001), 6, 2),
         table(&a_with(3, 0x0C00000080000004), 8, 3),
         table(&a_with(3, 0x0C00000040000000), 9, 2),
+        // An edge's fault before the order's.
+        table(
+            &[0x0800000040000004, 0x0800000000000001, 0x0400000040000001],
+            6,
+            2,
+        ),
     ]
 }
 
