@@ -14,7 +14,7 @@ use rules::Verdict;
 
 // Rules 4 to 9, by marks that are clear. (The last node needs no name.)
 fn check_named(table: &[u8], marks: &mut [u8], n: u64, nodes: usize) -> Verdict
-    requires { ⌜ (8 * nodes + 8 ≤ length (now table)) × (nodes < length (now marks)) × Marked (now marks) 0 (wordAt (now table)) ⌝ }
+    requires { ⌜ (8 * nodes + 8 ≤ length (now table)) × (nodes ≤ 65535) × (nodes < length (now marks)) × Marked (now marks) 0 (wordAt (now table)) ⌝ }
     ensures { λ r. ⌜ verdictAs r ≡ checkDiagram (wordAt (now (table .entry))) n nodes ⌝ }
 {
     let records = pass::check_records(table, marks, n, nodes);

@@ -58,13 +58,10 @@ fn mark_named(marks: &mut [u8], fields: Record)
 
 // A record from k on up to which all pass if those up to k do; what they name is marked. If k is the first of its height, the nodes below k are the lower ones: no child's height is read.
 fn skip_level(table: &[u8], marks: &mut [u8], nodes: usize, k: usize) -> usize
-    requires { ⌜ (0 < k) × (k ≤ nodes) × (8 * nodes + 8 ≤ length (now table)) × (nodes < length (now marks)) × Marked (now marks) k (wordAt (now table)) ⌝ }
+    requires { ⌜ (0 < k) × (k ≤ nodes) × (nodes ≤ 65535) × (8 * nodes + 8 ≤ length (now table)) × (nodes < length (now marks)) × Marked (now marks) k (wordAt (now table)) ⌝ }
     ensures { λ r. ⌜ (k ≤ r) × (r ≤ nodes) × PassFrom (wordAt (now (table .entry))) k r
         × (length (now (marks .exit)) ≡ length (now (marks .entry))) × Marked (now (marks .exit)) r (wordAt (now (table .entry))) ⌝ }
 {
-    if 268435455 < k {
-        return k;
-    }
     let h = diagram::height_at(table, Node(k));
     if diagram::height_at(table, Node(k - 1)) == h {
         return k;
@@ -93,7 +90,7 @@ fn skip_level(table: &[u8], marks: &mut [u8], nodes: usize, k: usize) -> usize
 
 // Rules 4 to 8, of records 1 to N upward. Where they pass, the nodes that they name are marked, in marks that were clear.
 pub fn check_records(table: &[u8], marks: &mut [u8], n: u64, nodes: usize) -> Verdict
-    requires { ⌜ (8 * nodes + 8 ≤ length (now table)) × (nodes < length (now marks)) × Marked (now marks) 0 (wordAt (now table)) ⌝ }
+    requires { ⌜ (8 * nodes + 8 ≤ length (now table)) × (nodes ≤ 65535) × (nodes < length (now marks)) × Marked (now marks) 0 (wordAt (now table)) ⌝ }
     ensures { λ r. ⌜ (verdictAs r ≡ checkRecords (wordAt (now (table .entry))) n nodes)
         × (length (now (marks .exit)) ≡ length (now (marks .entry))) × (verdictAs r ≡ pass → Marked (now (marks .exit)) nodes (wordAt (now (table .entry)))) ⌝ }
 {

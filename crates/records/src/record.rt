@@ -15,12 +15,15 @@ use diagram::Record;
 use rules::Refusal;
 use rules::Verdict;
 
-// Whether edge e of record k, of height h, leads to a node not below k or to one not below h.
+// Whether edge e of record k, of height h, leads to a node not below k or to one not below h. (The sink is below any height.)
 fn is_misled(table: &[u8], k: Node, h: u64, e: Edge) -> bool
     requires { ⌜ (h ≡ height (wordAt (now table)) (k .0)) × (8 * k .0 + 8 ≤ length (now table)) ⌝ }
-    ensures { λ r. ⌜ r ≡ misled (wordAt (now (table .entry))) (k .0) (e .value) ⌝ }
+    ensures { λ r. ⌜ (0 < h → r ≡ misled (wordAt (now (table .entry))) (k .0) (e .value)) ⌝ }
 {
     let node = e.node();
+    if node.0 == 0 {
+        return false;
+    }
     if k.0 <= node.0 {
         return true;
     }
@@ -30,7 +33,7 @@ fn is_misled(table: &[u8], k: Node, h: u64, e: Edge) -> bool
 // Whether one of the edges of record k does.
 fn has_misled(table: &[u8], k: Node, fields: Record) -> bool
     requires { ⌜ (fields .height ≡ height (wordAt (now table)) (k .0)) × (8 * k .0 + 8 ≤ length (now table)) ⌝ }
-    ensures { λ r. ⌜ r ≡ (misled (wordAt (now (table .entry))) (k .0) (fields .high .value) || misled (wordAt (now (table .entry))) (k .0) (fields .low .value)) ⌝ }
+    ensures { λ r. ⌜ (0 < fields .height → r ≡ (misled (wordAt (now (table .entry))) (k .0) (fields .high .value) || misled (wordAt (now (table .entry))) (k .0) (fields .low .value))) ⌝ }
 {
     if is_misled(table, k, fields.height, fields.high) {
         return true;

@@ -21,7 +21,7 @@ abbrev μ-loop : tie.MeasureT-loop
 
 loop-holds : tie.Need-loop-holds Inv-loop μ-loop
 unfolding checkRecords each
-loop-holds c = (omega arith, refl, refl, c .before .before .pre .2)
+loop-holds c = (omega arith, refl, refl, c .before .before .pre .3)
 
 check-record-requires : tie.Need-check-record-requires Inv-loop μ-loop
 check-record-requires c κs = (omega arith, omega arith, c .word-at .ensures, c .before .word-before .ensures)
@@ -70,7 +70,7 @@ skip-level-requires c κs =
     let p = entry of .pre in
     let l = word-of of .before .before .loop-test .taken in
     let m = marked (c .before .before .before) in
-    (omega arith, omega arith, p .0, omega arith, m .1)
+    (omega arith, omega arith, p .1, p .0, omega arith, m .1)
 
 loop-again : tie.Need-loop-again Inv-loop μ-loop
 loop-again c =

@@ -5,10 +5,10 @@ use Rattle.records.proofs.record.has_misled.Statement.{statement}
 use Rattle.records.proofs.record.has_misled.Tie as tie
 
 returns : tie.Need-returns
-returns c = rw (sym (c .before .is-misled .ensures) ∙ c .if1 .taken)
+returns c tall = rw (sym (c .before .is-misled .ensures tall) ∙ c .if1 .taken)
 
 returns-2 : tie.Need-returns-2
-returns-2 c = rw (sym (c .before .before .is-misled .ensures) ∙ c .before .if1 .left) (c .is-misled2 .ensures)
+returns-2 c tall = rw (sym (c .before .before .is-misled .ensures tall) ∙ c .before .if1 .left) (c .is-misled2 .ensures tall)
 
 pub has-misled-spec : {M : Type 1} → statement M
 has-misled-spec = tie.close (tie.spec (λ c κs. search needs) returns (λ c κs. search needs) returns-2)
