@@ -43,8 +43,8 @@
  *     10  sheet_len is under 8 * (N + 1), or for part-write under 8 * (4 * N + 512)
  *         then for record 1, record 2, ... to N:
  *      4    its height is 0 or above n
- *      5    it is not above the record before it, as an unsigned number
  *      6    an edge leads to a node not below k, or to a height not below its own
+ *      5    it is not above the record before it, as an unsigned number
  *      7    its then-edge is complemented
  *      8    its two edges are equal
  *      9  no record has an edge to record k, which is below N; the lowest such k

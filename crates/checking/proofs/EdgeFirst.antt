@@ -71,7 +71,7 @@ module _ (w : Words) (n k : ℕ) where
   passes-former : checkRecord w n k ≡ pass → formerRecord w n k ≡ pass
   passes-former e = elim both-or-same [ inl B ↦ absurd (refused-not (sym (both-present B) ∙ e)) | inr q ↦ q ∙ e ]
 
--- two runs of checks: all are the same, or up to some place, which the second run reaches
+-- two runs of checks come to the same, or the second reaches a place at which P holds
 runs : (P : ℕ → Type 0) (f g : ℕ → Answer (Unit {0})) (m : ℕ) → ((k : ℕ) → P k ⊎ (f k ≡ g k))
     → ((k : ℕ) × (k < m) × (each g k ≡ pass) × P k) ⊎ (each f m ≡ each g m)
 unfolding each andThen
@@ -90,7 +90,7 @@ module _ (need : ℕ → ℕ) (table sheet : List ℕ) where
   abbrev n : ℕ
   n = settings w
 
-  -- these answers were 5 and are 6, at the same record
+  -- these answers were 5 at record k, and are 6 at record k
   pub moved : (k : ℕ) → Moves need table sheet k → (formerFor need table sheet ≡ refusal 5 k) × (checkingFor need table sheet ≡ refusal 6 k)
   unfolding formerFor checkingFor check checkDiagram checkRecords andThen
   moved zero M = absurd (omega (arith, M .both .later))

@@ -31,10 +31,13 @@ formerFor need table sheet =
 
 -- record k has a permitted height and breaks rules 5 and 6 both
 pub record BreaksBoth (w : Words) (n k : ℕ) : Type 0 where
+  -- the height
   pub tall : 0 < height w k
   pub low : height w k ≤ n
+  -- rule 5: it is not above the record before it
   pub later : 1 < k
   pub falls : w k ≤ w (k - 1)
+  -- rule 6: one of its edges
   pub misleads : (misled w k (thenEdge w k) ≡ true) ⊎ (misled w k (elseEdge w k) ≡ true)
 
 -- ... and is the first record that is refused: the header passes, and every record before it

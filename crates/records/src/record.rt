@@ -15,7 +15,7 @@ use diagram::Record;
 use rules::Refusal;
 use rules::Verdict;
 
-// Whether edge e of record k, of height h, leads to a node not below k or to one not below h. (The sink is below any height.)
+// Whether edge e of record k, whose height h is above 0, leads to a node not below k or to one not below h. The sink is below both.
 fn is_misled(table: &[u8], k: Node, h: u64, e: Edge) -> bool
     requires { ⌜ (h ≡ height (wordAt (now table)) (k .0)) × (8 * k .0 + 8 ≤ length (now table)) ⌝ }
     ensures { λ r. ⌜ (0 < h → r ≡ misled (wordAt (now (table .entry))) (k .0) (e .value)) ⌝ }
@@ -41,7 +41,7 @@ fn has_misled(table: &[u8], k: Node, fields: Record) -> bool
     is_misled(table, k, fields.height, fields.low)
 }
 
-// Whether h is no height of a table of n settings.
+// Whether a height is 0 or above n.
 fn is_unfit(n: u64, h: u64) -> bool
     ensures { λ r. ⌜ r ≡ (eqb h 0 || ltb n h) ⌝ }
 {

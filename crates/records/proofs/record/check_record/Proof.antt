@@ -18,7 +18,7 @@ has-misled-requires c κs =
     let p = a .pre in
     (fields-of _ (a .args .n) _ _ _ _ _ _ (p .0) (p .2) (p .3) (c .before .of .ensures) .height-is, p .1)
 
--- the rules in their order, by the tests of the height and of the edges, which are made
+-- the rules in their order, by what the tests of the height and of the edges have given
 rules : (c : tie.After-has-misled) → let a = c .before .before .before .before .args in let k = a .k .0 in let r = c .before .before .of .result in
     checkRecord (wordAt (a .table .now)) (a .n) k
     ≡ cond (c .before .is-unfit .result) (refusal 4 k)
