@@ -1,6 +1,6 @@
 -- The answers that moved when rule 6 came before rule 5 are those of the request, and no others. Assumes nothing.
-use Prim.Native.Nat.{ℕ, zero, suc, _-_, _/_, _<_}
-use mathlib.Core.Path.{_≡_, refl, sym, ap, _∙_}
+use Prim.Native.Nat.{ℕ, zero, suc, _-_, _/_}
+use mathlib.Core.Path.{_≡_, refl, sym, _∙_}
 use mathlib.Core.Logic.{_⊎_, inl, inr, _↔_}
 use mathlib.Core.Bool.{Bool, true, false, _&&_, _||_}
 use mathlib.Core.List.{List, []}
@@ -13,7 +13,7 @@ use Rattle.words.proofs.Cases.{or-true, or-false, or-either, join-false, both-t
 use Rattle.diagram.specs.Format.{Words, settings, nodes, height, thenEdge, elseEdge}
 use Rattle.diagram.specs.Answer.{Answer, value, refusal, andThen, pass, each}
 use Rattle.diagram.specs.Rules.{misled, checkHeader, checkRecord, checkRecords, checkDiagram, check, Accepts}
-use Rattle.diagram.proofs.AnswerLaws.{refused-not, each-all, all-each, each-refused}
+use Rattle.diagram.proofs.AnswerLaws.{refused-not, each-all, all-each, each-agree, each-refused}
 use Rattle.checking.specs.Operations.{checkingFor, sheetBy}
 use Rattle.checking.specs.EdgeFirst.{formerRecord, formerFor, BreaksBoth, Moves}
 
@@ -71,18 +71,6 @@ module _ (w : Words) (n k : ℕ) where
   passes-former : checkRecord w n k ≡ pass → formerRecord w n k ≡ pass
   passes-former e = elim both-or-same [ inl B ↦ absurd (refused-not (sym (both-present B) ∙ e)) | inr q ↦ q ∙ e ]
 
--- two runs of checks come to the same, or the second reaches a place at which P holds
-runs : (P : ℕ → Type 0) (f g : ℕ → Answer (Unit {0})) (m : ℕ) → ((k : ℕ) → P k ⊎ (f k ≡ g k))
-    → ((k : ℕ) × (k < m) × (each g k ≡ pass) × P k) ⊎ (each f m ≡ each g m)
-unfolding each andThen
-runs P f g zero h = inr refl
-runs P f g (suc m) h = elim (runs P f g m h) [ inl (k, l, e, p) ↦ inl (k, omega arith, e, p) | inr q ↦ go (each g m) refl q (h m) ]
-  where
-    go : (a : Answer (Unit {0})) → each g m ≡ a → each f m ≡ each g m → P m ⊎ (f m ≡ g m) → ((k : ℕ) × (k < suc m) × (each g k ≡ pass) × P k) ⊎ (each f (suc m) ≡ each g (suc m))
-    go (refusal r p) e q s = inr (rw (q, e))
-    go (value v) e q (inl p) = inl (m, omega arith, e, p)
-    go (value v) e q (inr s) = inr (rw (q, s))
-
 module _ (need : ℕ → ℕ) (table sheet : List ℕ) where
   abbrev w : Words
   w = wordAt table
@@ -102,15 +90,15 @@ module _ (need : ℕ → ℕ) (table sheet : List ℕ) where
         rw (M .header-passes, each-refused (λ k. checkRecord w n (suc k)) (nodes w) j 6 (suc j) (M .is-record) e (both-present w n (suc j) (M .both))),
       )
 
-  -- and no others: everywhere else both orders answer the same
-  moved-or-same : ((k : ℕ) × Moves need table sheet k) ⊎ (formerFor need table sheet ≡ checkingFor need table sheet)
+  -- and no others: either some record is such a one, or both orders answer the same
+  pub moved-or-same : ((k : ℕ) × Moves need table sheet k) ⊎ (formerFor need table sheet ≡ checkingFor need table sheet)
   unfolding formerFor checkingFor check checkDiagram checkRecords andThen
   moved-or-same = go (checkHeader table (length sheet / 8) need) refl
     where
       go : (a : Answer (Unit {0})) → checkHeader table (length sheet / 8) need ≡ a → ((k : ℕ) × Moves need table sheet k) ⊎ (formerFor need table sheet ≡ checkingFor need table sheet)
       go (refusal r p) e = inr (rw e)
       go (value v) e =
-          elim (runs (λ k. BreaksBoth w n (suc k)) (λ k. formerRecord w n (suc k)) (λ k. checkRecord w n (suc k)) (nodes w) (λ k. both-or-same w n (suc k))) [
+          elim (each-agree (λ k. BreaksBoth w n (suc k)) (λ k. formerRecord w n (suc k)) (λ k. checkRecord w n (suc k)) (nodes w) (λ k. both-or-same w n (suc k))) [
             | inl (k, l, q, B) ↦ (let i : suc k - 1 ≡ k = omega arith in inl (suc k, record { header-passes = e; is-record = l; before-pass = rw i q; both = B }))
             | inr q ↦ inr (rw (e, q))
           ]

@@ -1,6 +1,7 @@
 -- The laws of answers, of a run of checks, and of a search. Assumes nothing.
 use Prim.Native.Nat.{ℕ, zero, suc, _<_}
 use mathlib.Core.Path.{_≡_, refl, sym, _∙_, subst}
+use mathlib.Core.Logic.{_⊎_, inl, inr}
 use mathlib.Core.Bool.{Bool, true, false, _||_, true≢false}
 use native.Mathlib.Omega.{arith}
 use Rattle.words.proofs.Cases.{less, same, more, tri, or-either}
@@ -46,6 +47,18 @@ pub each-cong : (f g : ℕ → Answer (Unit {0})) (m : ℕ) → ((k : ℕ) → k
 unfolding each
 each-cong f g zero h = refl
 each-cong f g (suc m) h = rw (each-cong f g m (λ k l. h k (omega arith)), h m (omega arith))
+
+-- ... or that agree where P does not hold: they come to the same, or the second reaches a check at which P holds
+pub each-agree : (P : ℕ → Type 0) (f g : ℕ → Answer (Unit {0})) (m : ℕ) → ((k : ℕ) → P k ⊎ (f k ≡ g k))
+    → ((k : ℕ) × (k < m) × (each g k ≡ pass) × P k) ⊎ (each f m ≡ each g m)
+unfolding each andThen
+each-agree P f g zero h = inr refl
+each-agree P f g (suc m) h = elim (each-agree P f g m h) [ inl (k, l, e, p) ↦ inl (k, omega arith, e, p) | inr q ↦ go (each g m) refl q (h m) ]
+  where
+    go : (a : Answer (Unit {0})) → each g m ≡ a → each f m ≡ each g m → P m ⊎ (f m ≡ g m) → ((k : ℕ) × (k < suc m) × (each g k ≡ pass) × P k) ⊎ (each f (suc m) ≡ each g (suc m))
+    go (refusal r p) e q s = inr (rw (q, e))
+    go (value v) e q (inl p) = inl (m, omega arith, e, p)
+    go (value v) e q (inr s) = inr (rw (q, s))
 
 -- a run that does not pass comes to its first refusal
 pub each-refused : (f : ℕ → Answer (Unit {0})) (m k r p : ℕ) → k < m → each f k ≡ pass → f k ≡ refusal r p → each f m ≡ refusal r p
