@@ -149,7 +149,10 @@ pub enum Astray {
 /// before it. Gives back its number, if such a record was found.
 pub fn fall_astray(rng: &mut Rng, words: &mut [u64], astray: Astray) -> Option<u64> {
     let last = words.len() as u64 - 1;
-    for _ in 0..if last < 2 { 0 } else { 100 } {
+    if last < 2 {
+        return None;
+    }
+    for _ in 0..100 {
         let k = rng.between(2, last);
         let before = words[k as usize - 1];
         let height = rng.between(1, fields(before).0);

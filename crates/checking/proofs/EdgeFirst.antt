@@ -1,5 +1,5 @@
 -- The answers that moved when rule 6 came before rule 5 are those of the request, and no others. Assumes nothing.
-use Prim.Native.Nat.{ℕ, zero, suc, _-_, _/_}
+use Prim.Native.Nat.{ℕ, zero, suc, _-_, _/_, _≤_, _<_}
 use mathlib.Core.Path.{_≡_, refl, sym, _∙_}
 use mathlib.Core.Logic.{_⊎_, inl, inr, _↔_}
 use mathlib.Core.Bool.{Bool, true, false, _&&_, _||_}
@@ -7,15 +7,43 @@ use mathlib.Core.List.{List, []}
 use native.Mathlib.Omega.{arith}
 use lib.Dec.{eqb, ltb, leb}
 use lib.ListN.{length}
-use borrow.Author.Tests.{eqb-false, ltb-true, ltb-false, leb-true, ne-eqb, le-ltb, lt-ltb, le-leb}
+use borrow.Author.Tests.{ltb-true, leb-true, lt-ltb, le-leb}
 use Rattle.words.specs.Words.{wordAt}
-use Rattle.words.proofs.Cases.{or-true, or-false, or-either, join-false, both-true}
-use Rattle.diagram.specs.Format.{Words, settings, nodes, height, thenEdge, elseEdge}
+use Rattle.words.proofs.Cases.{or-true, or-either, both-true}
+use Rattle.diagram.specs.Format.{Words, highField, settings, nodes, height, thenEdge, elseEdge}
 use Rattle.diagram.specs.Answer.{Answer, value, refusal, andThen, pass, each}
 use Rattle.diagram.specs.Rules.{misled, checkHeader, checkRecord, checkRecords, checkDiagram, check, Accepts}
 use Rattle.diagram.proofs.AnswerLaws.{refused-not, each-all, all-each, each-agree, each-refused}
+use Rattle.diagram.proofs.Accept.{fitting, fits, records-reduced}
+use Rattle.diagram.proofs.Unique.{rising}
 use Rattle.checking.specs.Operations.{checkingFor, sheetBy}
 use Rattle.checking.specs.EdgeFirst.{formerRecord, formerFor, BreaksBoth, Moves}
+
+-- a word of a smaller height is smaller
+lower : (a b : ℕ) → highField a < highField b → a < b
+unfolding highField
+lower a b l = omega arith
+
+-- where all records before it pass, a record with an edge to an earlier one of greater height breaks both rules
+pub taller-breaks-both : (w : Words) (n k j : ℕ) → checkRecords w n k ≡ pass → j ≤ k → 0 < height w (suc k) → height w (suc k) < height w j
+    → (thenEdge w (suc k) / 2 ≡ j) ⊎ (elseEdge w (suc k) / 2 ≡ j) → BreaksBoth w n (suc k)
+unfolding height misled
+taller-breaks-both w n k zero e l t h to = absurd (omega arith)
+taller-breaks-both w n zero (suc j) e l t h to = absurd (omega arith)
+taller-breaks-both w n (suc k) (suc j) e l t h to =
+    let R = records-reduced w n (suc k) e in
+    let a = lower (w (suc (suc k))) (w (suc j)) h in
+    let b = rising w n (suc k) R j k (omega arith) (omega arith) in
+    let i : suc (suc k) - 1 ≡ suc k = omega arith in
+    let leads : (d : ℕ) → d / 2 ≡ suc j → misled w (suc (suc k)) d ≡ true =
+    λ d q. rw q (or-either (leb (suc (suc k)) (suc j)) (le-leb (height w (suc (suc k))) (height w (suc j)) (omega arith))) in
+    record {
+      tall = t;
+      low = omega (arith, R .ordered .low j (omega arith));
+      later = omega arith;
+      falls = rw i (omega arith);
+      misleads = elim to [ inl q ↦ inl (leads (thenEdge w (suc (suc k))) q) | inr q ↦ inr (leads (elseEdge w (suc (suc k))) q) ];
+    }
 
 -- one record, by both orders
 module _ (w : Words) (n k : ℕ) where
@@ -30,12 +58,11 @@ module _ (w : Words) (n k : ℕ) where
 
   breaks-both : unfit ≡ false → falling ≡ true → misleading ≡ true → BreaksBoth w n k
   breaks-both p q r =
-      let h = or-false (eqb (height w k) 0) (ltb n (height w k)) p in
-      let o : height w k ≡ 0 → ⊥ = eqb-false (height w k) 0 (h .0) in
+      let h = fits n (height w k) p in
       let f = both-true (ltb 1 k) (leb (w k) (w (k - 1))) q in
       record {
-        tall = omega arith;
-        low = ltb-false n (height w k) (h .1);
+        tall = h .0;
+        low = h .1;
         later = ltb-true 1 k (f .0);
         falls = leb-true (w k) (w (k - 1)) (f .1);
         misleads = or-true (misled w k (thenEdge w k)) (misled w k (elseEdge w k)) r;
@@ -54,7 +81,7 @@ module _ (w : Words) (n k : ℕ) where
 
   module _ (B : BreaksBoth w n k) where
     fit : unfit ≡ false
-    fit = join-false (ne-eqb (height w k) 0 (λ z. omega (arith, B .tall))) (le-ltb n (height w k) (B .low))
+    fit = fitting n (height w k) (B .tall) (B .low)
 
     both-former : formerRecord w n k ≡ refusal 5 k
     unfolding formerRecord

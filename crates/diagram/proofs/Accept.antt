@@ -16,6 +16,16 @@ use Rattle.diagram.specs.Rules.{misled, checkRecord, names, named, check
 use Rattle.diagram.specs.Ordered.{Ordered, Reduced, Named, Proper, Accepted}
 use Rattle.diagram.proofs.AnswerLaws.{refused-not, value-inj, then-value, each-all, all-each, some-at, some-found}
 
+-- a height passes rule 4 if it is from 1 to n, and only then
+pub fitting : (n h : ℕ) → 0 < h → h ≤ n → (eqb h 0 || ltb n h) ≡ false
+fitting n h p l = join-false (ne-eqb h 0 (λ z. omega arith)) (le-ltb n h l)
+
+pub fits : (n h : ℕ) → (eqb h 0 || ltb n h) ≡ false → (0 < h) × (h ≤ n)
+fits n h e =
+    let a = or-false (eqb h 0) (ltb n h) e in
+    let o : h ≡ 0 → ⊥ = eqb-false h 0 (a .0) in
+    (omega arith, ltb-false n h (a .1))
+
 -- what rules 4 to 8 say of record k, taken apart
 record Kept (w : Words) (n k : ℕ) : Type 0 where
   tall : 0 < height w k
@@ -36,15 +46,14 @@ kept w n k e =
     let c = passed (ltb 1 k && leb (w k) (w (k - 1))) refused-not (b .1) in
     let d = passed (eqb (thenEdge w k % 2) 1) refused-not (c .1) in
     let f = passed (eqb (thenEdge w k) (elseEdge w k)) refused-not (d .1) in
-    let h = or-false (eqb (height w k) 0) (ltb n (height w k)) (a .0) in
+    let h = fits n (height w k) (a .0) in
     let m = or-false (misled w k (thenEdge w k)) (misled w k (elseEdge w k)) (b .0) in
     let t = or-false (leb k (thenEdge w k / 2)) (leb (height w k) (height w (thenEdge w k / 2))) (m .0) in
     let u = or-false (leb k (elseEdge w k / 2)) (leb (height w k) (height w (elseEdge w k / 2))) (m .1) in
     let o : thenEdge w k % 2 ≡ 1 → ⊥ = eqb-false (thenEdge w k % 2) 1 (d .0) in
-    let i : height w k ≡ 0 → ⊥ = eqb-false (height w k) 0 (h .0) in
     record {
-      tall = omega arith;
-      low = ltb-false n (height w k) (h .1);
+      tall = h .0;
+      low = h .1;
       above = c .0;
       then-node = leb-false k (thenEdge w k / 2) (t .0);
       then-height = leb-false (height w k) (height w (thenEdge w k / 2)) (t .1);
@@ -155,14 +164,12 @@ module _ (w : Words) (n N : ℕ) (A : Proper w n N) where
   keeps : (k : ℕ) → k < N → checkRecord w n (suc k) ≡ pass
   unfolding checkRecord misled
   keeps k l =
-      let a = D .tall k l in
-      let b = D .low k l in
       let c = D .then-node k l in
       let d = D .else-node k l in
       let e = thenEdge w (suc k) in
       let f = elseEdge w (suc k) in
       rw (
-        join-false (ne-eqb (height w (suc k)) 0 (λ z. omega arith)) (le-ltb n (height w (suc k)) (omega arith)),
+        fitting n (height w (suc k)) (D .tall k l) (D .low k l),
         join-false (lt-leb (suc k) (e / 2) (omega arith)) (lt-leb (height w (suc k)) (height w (e / 2)) (D .then-height k l)),
         join-false (lt-leb (suc k) (f / 2) (omega arith)) (lt-leb (height w (suc k)) (height w (f / 2)) (D .else-height k l)),
         and-false (ltb 1 (suc k)) (leb (w (suc k)) (w (suc k - 1))) (λ q. lt-leb (w (suc k)) (w (suc k - 1)) (before k l (ltb-true 1 (suc k) q))),

@@ -2,7 +2,7 @@
 use Prim.Native.Nat.{ℕ, zero, suc, _+_, _-_, _*_, _/_, _%_, _^_, _≤_, _<_}
 use mathlib.Core.Path.{_≡_, refl, sym, ap, ap₂, _∙_}
 use mathlib.Core.Bool.{Bool, true, false, not, true≢false, Bool·not-not}
-use native.Mathlib.Nat.{le-antisymm, div-div-eq-div-mul}
+use native.Mathlib.Nat.{le-antisymm, div-div-eq-div-mul, le-refl}
 use native.Mathlib.Omega.{arith}
 use Rattle.diagram.specs.Format.{highField, middleField, lowField, Words, height, thenEdge, elseEdge}
 use Rattle.diagram.specs.Meaning.{flip, plain, under}
@@ -96,7 +96,11 @@ module _ (w : Words) (n N : ℕ) (D : Reduced w n N) where
       let a = D .ascends k m in
       elim (tri j k) [ less q ↦ let b = ascending j k q (omega arith) in omega arith | same q ↦ rw q a | more q ↦ absurd (omega arith) ]
 
-  -- so equal records are one record
+  -- ... so none is above a later one
+  pub rising : (j k : ℕ) → j ≤ k → k < N → w (suc j) ≤ w (suc k)
+  rising j k l m = elim (tri j k) [ less q ↦ omega (arith, ascending j k q m) | same q ↦ rw q (le-refl (w (suc k))) | more q ↦ absurd (omega arith) ]
+
+  -- and equal records are one record
   pub record-inj : (j k : ℕ) → j < N → k < N → w (suc j) ≡ w (suc k) → j ≡ k
   record-inj j k l m e =
       elim (tri j k) [ less q ↦ omega (arith, ascending j k q m) | same q ↦ q | more q ↦ omega (arith, ascending k j q l) ]

@@ -2,12 +2,11 @@
 use Prim.Native.Nat.{ℕ, zero, suc, _+_, _-_, _*_, _/_, _%_, _≤_, _<_}
 use mathlib.Core.Path.{_≡_, sym, ap, _∙_}
 use mathlib.Core.Bool.{Bool, true, false, not}
-use native.Mathlib.Nat.{le-refl}
 use native.Mathlib.Omega.{arith}
 use native.Mathlib.Numerals.{add-one}
 use lib.Dec.{eqb, ltb, leb}
-use borrow.Author.Tests.{eqb-false, not-true, le-ltb, lt-leb, ne-eqb}
-use Rattle.words.proofs.Cases.{less, same, more, tri, join-false, and-false}
+use borrow.Author.Tests.{eqb-false, not-true, lt-leb, ne-eqb}
+use Rattle.words.proofs.Cases.{join-false, and-false}
 use Rattle.diagram.specs.Format.{Words, highField, middleField, lowField, height, thenEdge, elseEdge}
 use Rattle.diagram.specs.Count.{indicator}
 use Rattle.diagram.specs.Answer.{pass}
@@ -15,10 +14,10 @@ use Rattle.diagram.specs.Rules.{misled, checkRecord, checkRecords}
 use Rattle.diagram.specs.Ordered.{Reduced}
 use Rattle.diagram.specs.Reading.{HasFields, recordOf}
 use Rattle.diagram.proofs.AnswerLaws.{each-next}
-use Rattle.diagram.proofs.Accept.{records-reduced}
+use Rattle.diagram.proofs.Accept.{fitting, records-reduced}
 use Rattle.diagram.proofs.Fields.{height-node}
 use Rattle.diagram.proofs.Paths.{tall-node, height-le-settings}
-use Rattle.diagram.proofs.Unique.{ascending}
+use Rattle.diagram.proofs.Unique.{rising}
 use Rattle.records.specs.Inner.{InLevel, PassFrom}
 
 -- the code's tests of a word, the last two by their answers
@@ -47,8 +46,7 @@ below-lower w n N (suc k) zero R p l q i = R .ordered .tall k l
 below-lower w n N (suc zero) (suc j) R p l q i = absurd (omega arith)
 below-lower w n N (suc (suc k)) (suc j) R p l q i =
     let e : suc (suc k) - 1 ≡ suc k = omega arith in
-    let a : w (suc j) ≤ w (suc k) = elim (tri j k) [ less s ↦ omega (arith, ascending w n N R j k s (omega arith)) | same s ↦ rw s (le-refl (w (suc k))) | more s ↦ absurd (omega arith) ] in
-    higher (w (suc j)) (w (suc k)) (w (suc (suc k))) a (R .ascends k l) (λ z. q (ap (height w) e ∙ z))
+    higher (w (suc j)) (w (suc k)) (w (suc (suc k))) (rising w n N R j k (omega arith) (omega arith)) (R .ascends k l) (λ z. q (ap (height w) e ∙ z))
 
 -- a word from the first of a height on and below the limit is of that height, and its then-edge is below `low`
 module _ (first word low : ℕ) (few : low ≤ 536870912) (l : first ≤ word) (m : word < highField first * 288230376151711744 + low * 536870912) where
@@ -87,7 +85,7 @@ module _ (w : Words) (n k i : ℕ) (p : 0 < k) (few : k ≤ 268435455) (first : 
       let q : suc i - 1 ≡ i = omega arith in
       let v = w (suc i) in
       rw (
-        join-false (ne-eqb (height w (suc i)) 0 (λ z. omega (arith, level))) (le-ltb n (height w (suc i)) (omega (arith, level))),
+        fitting n (height w (suc i)) (omega (arith, level)) (omega (arith, level)),
         join-false (leads-lower (middleField v) (middle-below (w k) v (2 * k) (omega arith) (omega (arith, f .ascends)) limited)) (leads-lower (lowField v) (f .else-below)),
         and-false (ltb 1 (suc i)) (leb v (w (suc i - 1))) (λ _. rw q (lt-leb v (w i) (f .ascends))),
         ne-eqb (middleField v % 2) 1 (λ z. omega (arith, f .then-plain)),

@@ -4,12 +4,13 @@ use mathlib.Core.Path.{_≡_, sym, _∙_}
 use mathlib.Core.Bool.{Bool, true, false, cond, _&&_, _||_}
 use native.Mathlib.Omega.{arith}
 use lib.Dec.{eqb, ltb, leb}
-use borrow.Author.Tests.{lt-ltb, lt-leb, eqb-false}
-use Rattle.words.proofs.Cases.{or-false, join-false}
+use borrow.Author.Tests.{lt-ltb, lt-leb}
+use Rattle.words.proofs.Cases.{join-false}
 use Rattle.diagram.specs.Format.{Words, highField, height}
 use Rattle.diagram.specs.Answer.{refusal, pass}
 use Rattle.diagram.specs.Rules.{misled, checkRecord}
 use Rattle.diagram.specs.Reading.{HasFields, IsRecord}
+use Rattle.diagram.proofs.Accept.{fits}
 use Rattle.diagram.proofs.Fields.{fields-record}
 use Rattle.records.specs.Inner.{previous}
 
@@ -35,7 +36,6 @@ module _ (w : Words) (n k h a b word before : ℕ) (p : 0 < k) (word-is : word �
   unfolding checkRecord highField
   by-tests true c f u-is c-is f-is = rw (← fields-of .height-is, ← u-is)
   by-tests false c f u-is c-is f-is =
-      let o : h ≡ 0 → ⊥ = eqb-false h 0 (or-false (eqb h 0) (ltb n h) (sym u-is) .0) in
-      let tall : 0 < h = omega arith in
+      let tall = fits n h (sym u-is) .0 in
       let q : f ≡ (ltb 1 k && leb (w k) (w (k - 1))) = f-is ∙ above-nothing word before (w (k - 1)) k p (omega (arith, F .high-is)) before-is ∙ rw word-is in
       rw (← fields-of .height-is, ← fields-of .then-is, ← fields-of .else-is, ← u-is, ← c-is tall, ← q)
