@@ -1,11 +1,19 @@
 -- An answer for C as a number returned and the three words of `answer`. Assumes nothing.
 use Prim.Native.Nat.{ℕ}
 use mathlib.Core.List.{List, [], _∷_}
+use mathlib.Core.Option.{none, some}
 use Rattle.diagram.specs.Answer.{Answer, value, refusal}
+use Rattle.exclusion.specs.Finding.{Finding, isPermitted, ruledOut}
 
 -- three words, of which only the first is used
 abbrev pub single : ℕ → List ℕ
 single v = v ∷ 0 ∷ 0 ∷ []
+
+-- what was found of a setup: 0 if it is permitted, 1 and p where no setup is given, which is 0, or 2, p and the setup given
+unfoldable pub found : Finding → List ℕ
+found isPermitted = single 0
+found (ruledOut p none) = 1 ∷ p ∷ 0 ∷ []
+found (ruledOut p (some y)) = 2 ∷ p ∷ y ∷ []
 
 -- what is returned: 0, or the refusal's number
 unfoldable pub returned : {A : Type 0} → Answer A → ℕ

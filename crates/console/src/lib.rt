@@ -7,12 +7,14 @@ ghost use lib.ListN.{length};
 ghost use Rattle.rules.specs.Packed.{packed};
 ghost use Rattle.checking.specs.Operations.{blank};
 ghost use Rattle.ranking.specs.Operations.{ranking, unranking};
+ghost use Rattle.exclusion.specs.Operations.{rulingOut};
 ghost use Rattle.lists.specs.Operations.{items, unrankingList, setupsAfter};
 ghost use Rattle.tables.specs.Writing.{lengthOf};
 ghost use Rattle.parts.specs.Operations.{partWriting, Promise};
-ghost use Rattle.console.specs.Told.{single, returned, told};
+ghost use Rattle.console.specs.Told.{single, found, returned, told};
 use diagram::Rank;
 use diagram::Setup;
+use exclusion::RuledOut;
 use lists::Listed;
 use ranking::Ranked;
 use ranking::Unranked;
@@ -44,6 +46,27 @@ pub extern "C" fn setupbook_unrank(table: &[u8], rank: u64, sheet: &mut [u8]) ->
     }
 }
 
+// The settings that rule a setup out: how many, and the setup given.
+#[no_mangle]
+pub extern "C" fn setupbook_ruled_out(
+    table: &[u8],
+    setup: u64,
+    sheet: &mut [u8],
+    answer: &mut [u64; 3],
+) -> u64
+    ensures { λ r. ⌜ (r ≡ returned (rulingOut (now (table .entry)) setup (now (sheet .entry))))
+        × (now (answer .exit) ≡ told found (rulingOut (now (table .entry)) setup (now (sheet .entry))))
+        × (now (sheet .exit) ≡ blank (now (table .entry)) (now (sheet .entry))) ⌝ }
+{
+    let ruled_out = exclusion::ruled_out(table, Setup(setup), sheet);
+    match ruled_out {
+        RuledOut::Permitted => told::tell(0, 0, 0, answer),
+        RuledOut::Empty => told::tell(1, 0, 0, answer),
+        RuledOut::By(by) => told::tell(2, by.settings, by.nearest.0, answer),
+        RuledOut::Refused(r) => told::tell_refusal(r, answer),
+    }
+}
+
 // The setups of a list of ranks: how many.
 #[no_mangle]
 pub extern "C" fn setupbook_unrank_list(
@@ -60,7 +83,7 @@ pub extern "C" fn setupbook_unrank_list(
 {
     let listed = lists::unrank_list(table, ranks, sheet, setups);
     match listed {
-        Listed::Items(m) => told::tell(m as u64, answer),
+        Listed::Items(m) => told::tell(m as u64, 0, 0, answer),
         Listed::Refused(r) => told::tell_refusal(r, answer),
     }
 }

@@ -1,14 +1,15 @@
 // Answers in three words.
 ghost use mathlib.Core.Path.{_≡_};
+ghost use mathlib.Core.List.{[], _∷_};
 ghost use Rattle.rules.specs.Refusals.{numberOf, placeOf};
 ghost use Rattle.console.specs.Told.{single};
 use rules::Refusal;
 
-// Tells one word: 0 is returned.
-pub fn tell(v: u64, answer: &mut [u64; 3]) -> u64
-    ensures { λ r. ⌜ (r ≡ 0) × (now (answer .exit) ≡ single v) ⌝ }
+// Tells three words: 0 is returned.
+pub fn tell(a: u64, b: u64, c: u64, answer: &mut [u64; 3]) -> u64
+    ensures { λ r. ⌜ (r ≡ 0) × (now (answer .exit) ≡ a ∷ b ∷ c ∷ []) ⌝ }
 {
-    *answer = [v, 0, 0];
+    *answer = [a, b, c];
     0
 }
 

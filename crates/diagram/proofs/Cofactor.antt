@@ -6,15 +6,15 @@ use native.Mathlib.Omega.{arith}
 use lib.Dec.{ltb}
 use borrow.Author.Tests.{ltb-true, ltb-false, lt-ltb, le-ltb}
 use Rattle.diagram.specs.Format.{Words, height}
-use Rattle.diagram.specs.Meaning.{flip, plain, under}
+use Rattle.diagram.specs.Meaning.{bit, branch, flip, plain, under}
 use Rattle.diagram.specs.Count.{countBelow}
-use Rattle.diagram.specs.Ordered.{Ordered}
+use Rattle.diagram.specs.Ordered.{Ordered, Reduced}
 use Rattle.diagram.specs.Reading.{turn, cofactor}
 use Rattle.diagram.proofs.CountLaws.{count-cong, count-add}
 use Rattle.diagram.proofs.Bits.{withBit, with-mod, with-off, with-on, pow-halves}
-use Rattle.diagram.proofs.Paths.{side, side-lower}
+use Rattle.diagram.proofs.Paths.{side, side-lower, plain-branch}
 use Rattle.diagram.proofs.Local.{under-agree, node-with}
-use Rattle.diagram.proofs.Edges.{turn-node, turn-under}
+use Rattle.diagram.proofs.Edges.{turn-node, turn-inj, turn-under}
 
 -- a node of some height is not the sink
 pub no-sink : (w : Words) (k : ℕ) → 0 < height w k → 0 < k
@@ -49,6 +49,19 @@ module _ (w : Words) (n N : ℕ) (D : Ordered w n N) (e h : ℕ) (inside : e / 2
           let l = side-lower w n N D b (e / 2) (no-sink w (e / 2) (omega arith)) inside in
           rw (turn-node (e % 2) (side w b (e / 2))) (omega (arith, l .node), omega (arith, l .low))
 
+  -- an edge permits a setup exactly if its cofactor by the setup's own setting does
+  pub cofactor-own : (x : ℕ) → under w e x ≡ under w (cofactor w h (bit h x) e) x
+  unfolding cofactor under branch
+  cofactor-own x = go (ltb (height w (e / 2)) h) refl
+    where
+      go : (c : Bool) → ltb (height w (e / 2)) h ≡ c → under w e x ≡ under w (cond c e (turn (e % 2) (side w (bit h x) (e / 2)))) x
+      go true q = refl
+      go false q =
+          let p = ltb-false (height w (e / 2)) h q in
+          let t : height w (e / 2) ≡ h = omega arith in
+          ap (flip (e % 2)) (subst (λ (g : ℕ). plain w (e / 2) x ≡ under w (side w (bit g x) (e / 2)) x) t (plain-branch w n N D (e / 2) x (no-sink w (e / 2) (omega arith)) inside))
+          ∙ sym (turn-under w (e % 2) (side w (bit h x) (e / 2)) x)
+
   -- with the setting of height h on or off, an edge permits what its cofactor does
   pub cofactor-with : (b : Bool) (x : ℕ) → under w e (withBit b h x) ≡ under w (cofactor w h b e) x
   unfolding cofactor under
@@ -75,3 +88,15 @@ module _ (w : Words) (n N : ℕ) (D : Ordered w n N) (e h : ℕ) (inside : e / 2
       ap (countBelow (under w e)) (pow-halves h some)
       ∙ count-add (under w e) (2 ^ (h - 1)) (2 ^ (h - 1))
       ∙ sym (ap₂ _+_ (count-cong (under w (cofactor w h false e)) (under w e) (2 ^ (h - 1)) cofactor-off) (count-cong (under w (cofactor w h true e)) (λ x. under w e (2 ^ (h - 1) + x)) (2 ^ (h - 1)) cofactor-on))
+
+-- in a reduced diagram the cofactors of an edge by its own node's setting differ
+pub cofactors-differ : (w : Words) (n N : ℕ) → Reduced w n N → (e h : ℕ) → e / 2 ≤ N → h ≡ height w (e / 2) → 0 < h → cofactor w h true e ≡ cofactor w h false e → ⊥
+unfolding cofactor
+cofactors-differ w n N R e h inside h-is some q = go (e / 2) inside (no-sink w (e / 2) (omega (arith, h-is))) (turn-inj (e % 2) _ _ (sym (own true) ∙ q ∙ own false))
+  where
+    own : (b : Bool) → cofactor w h b e ≡ turn (e % 2) (side w b (e / 2))
+    own b = rw (le-ltb (height w (e / 2)) h (omega (arith, h-is)))
+
+    go : (k : ℕ) → k ≤ N → 0 < k → side w true k ≡ side w false k → ⊥
+    go zero l p s = omega arith
+    go (suc k) l p s = R .differ k l s

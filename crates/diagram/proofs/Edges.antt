@@ -50,6 +50,12 @@ unfolding turn
 turn-node zero e = refl
 turn-node (suc f) e = omega arith
 
+-- ... and another edge to another one
+pub turn-inj : (f a b : ℕ) → turn f a ≡ turn f b → a ≡ b
+unfolding turn
+turn-inj zero a b e = e
+turn-inj (suc f) a b e = omega arith
+
 -- ... stays below a limit of edges
 pub turn-lt : (f e m : ℕ) → e < 2 * m → turn f e < 2 * m
 unfolding turn

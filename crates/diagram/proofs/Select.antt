@@ -7,8 +7,8 @@ use native.Mathlib.Omega.{arith}
 use lib.Dec.{eqb}
 use borrow.Author.Tests.{eqb-true, eqb-false}
 use Rattle.words.proofs.Cases.{Tri, less, same, more, tri}
-use Rattle.diagram.specs.Count.{indicator, countBelow, select}
-use Rattle.diagram.proofs.CountLaws.{count-cong, count-mono-lt}
+use Rattle.diagram.specs.Count.{indicator, countBelow, select, smallest}
+use Rattle.diagram.proofs.CountLaws.{count-cong, count-none, count-mono-lt}
 
 -- what a selected number is
 pub record Selected (P : ℕ → Bool) (m r x : ℕ) : Type 0 where
@@ -83,3 +83,44 @@ pub selected-cong : (P Q : ℕ → Bool) (m r x : ℕ) → ((y : ℕ) → y < m 
 selected-cong P Q m r x h s =
     let l = s .below in
     record { below = l; passes = sym (h x l) ∙ s .passes; rank = sym (count-cong P Q x (λ y q. h y (omega arith))) ∙ s .rank }
+
+-- what the smallest number that passes is
+pub record Least (P : ℕ → Bool) (m x : ℕ) : Type 0 where
+  pub below : x < m
+  pub passes : P x ≡ true
+  pub least : (y : ℕ) → y < m → P y ≡ true → x ≤ y
+
+pub smallest-is : (P : ℕ → Bool) (m x : ℕ) → Least P m x → smallest P m ≡ some x
+unfolding smallest
+smallest-is P m x l = select-of P m 0 x (record { below = l .below; passes = l .passes; rank = count-none P x (λ y i. go y i (P y) refl) })
+  where
+    go : (y : ℕ) → y < x → (b : Bool) → P y ≡ b → P y ≡ false
+    go y i true p = absurd (omega (arith, l .least y (omega (arith, l .below)) p))
+    go y i false p = p
+
+pub smallest-least : (P : ℕ → Bool) (m x : ℕ) → smallest P m ≡ some x → Least P m x
+unfolding smallest
+smallest-least P m x e =
+    let s = select-some P m 0 x e in
+    record {
+      below = s .below;
+      passes = s .passes;
+      least = λ y i p. elim (tri x y) [ less l ↦ omega arith | same q ↦ omega arith | more l ↦ absurd (omega (arith, s .rank, count-mono-lt P p l)) ];
+    }
+
+-- none passes
+pub smallest-none : (P : ℕ → Bool) (m : ℕ) → ((x : ℕ) → x < m → P x ≡ false) → smallest P m ≡ none
+unfolding smallest
+smallest-none P m f = select-none P m 0 (omega (arith, count-none P m f))
+
+pub none-smallest : (P : ℕ → Bool) (m : ℕ) → smallest P m ≡ none → (x : ℕ) → x < m → P x ≡ false
+unfolding smallest
+none-smallest P m e x l = go (P x) refl
+  where
+    go : (b : Bool) → P x ≡ b → P x ≡ false
+    go false p = p
+    go true p =
+        let s = ranked P m 0 (omega (arith, count-mono-lt P p l)) in
+        let q : none ≡ some (s .0) = sym e ∙ select-of P m 0 (s .0) (s .1) in
+        let z : _≡_ {A = ℕ} 0 1 = cc in
+        absurd (omega arith)

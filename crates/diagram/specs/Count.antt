@@ -21,6 +21,10 @@ unfoldable pub select : (ℕ → Bool) → ℕ → ℕ → Option ℕ
 select P zero r = none
 select P (suc m) r = cond (P m && eqb (countBelow P m) r) (some m) (select P m r)
 
+-- the smallest x < m that passes the test P, if there is one: no smaller one does
+unfoldable pub smallest : (ℕ → Bool) → ℕ → Option ℕ
+smallest P m = select P m 0
+
 -- whether some x < m passes the test P
 unfoldable pub someBelow : (ℕ → Bool) → ℕ → Bool
 someBelow P zero = false
