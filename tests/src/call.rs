@@ -9,6 +9,7 @@ pub enum Call<'a> {
     Check,
     Count,
     Test { setup: u64 },
+    RuledOut { setup: u64 },
     Rank { setup: u64 },
     Unrank { rank: u64 },
     UnrankList { ranks: List<'a> },

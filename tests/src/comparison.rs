@@ -144,7 +144,11 @@ impl Comparison {
     fn each_call(&mut self, table: &[u8], mut make: impl FnMut(&mut Comparison, Call)) {
         let mut calls = vec![Call::Check, Call::Count];
         for setup in self.setups(table) {
-            calls.extend([Call::Test { setup }, Call::Rank { setup }]);
+            calls.extend([
+                Call::Test { setup },
+                Call::RuledOut { setup },
+                Call::Rank { setup },
+            ]);
         }
         let ranks = self.ranks(table);
         for &rank in &ranks {

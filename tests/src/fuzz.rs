@@ -204,7 +204,7 @@ impl Fuzz {
 fn any_call<'a>(rng: &mut Rng, limit: u64, list: List<'a>) -> Call<'a> {
     let number = number(rng, limit);
     let (k, j) = part(rng, limit);
-    match rng.below(9) {
+    match rng.below(10) {
         0 => Call::Check,
         1 => Call::Count,
         2 => Call::Test { setup: number },
@@ -213,6 +213,7 @@ fn any_call<'a>(rng: &mut Rng, limit: u64, list: List<'a>) -> Call<'a> {
         5 => Call::UnrankList { ranks: list },
         6 => Call::SpanStart { k, j },
         7 => Call::SpanSize { k, j },
+        8 => Call::RuledOut { setup: number },
         _ => Call::PartWrite { k, j },
     }
 }

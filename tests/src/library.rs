@@ -40,6 +40,14 @@ mod ffi {
             sheet: *mut u8,
             sheet_len: usize,
         ) -> u64;
+        pub fn setupbook_ruled_out(
+            table: *const u8,
+            table_len: usize,
+            setup: u64,
+            sheet: *mut u8,
+            sheet_len: usize,
+            answer: *mut u64,
+        ) -> u64;
         pub fn setupbook_unrank_list(
             table: *const u8,
             table_len: usize,
@@ -167,6 +175,9 @@ pub unsafe fn call_with(
         Call::Test { setup } => ffi::setupbook_test(t, t_len, setup, s, s_len),
         Call::Rank { setup } => ffi::setupbook_rank(t, t_len, setup, s, s_len),
         Call::Unrank { rank } => ffi::setupbook_unrank(t, t_len, rank, s, s_len),
+        Call::RuledOut { setup } => {
+            return in_words(|answer| ffi::setupbook_ruled_out(t, t_len, setup, s, s_len, answer))
+        }
         Call::UnrankList { .. } => {
             return in_words(|answer| {
                 ffi::setupbook_unrank_list(t, t_len, l, l_len, s, s_len, o, o_len, answer)

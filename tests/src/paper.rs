@@ -45,6 +45,10 @@ pub fn expect(call: Call, table: &[u8], sheet: &[u8], out: &[u8]) -> Expected {
             let setups = settled.unwrap().setups(ranks);
             Answer::result(put_words(&mut out, &setups) / 8)
         }
+        (None, None, Call::RuledOut { setup }) => Answer {
+            status: 0,
+            words: settled.unwrap().ruled_out(setup),
+        },
         (None, None, _) => Answer::result(settled.unwrap().result(call)),
     };
     let outcome = Outcome { answer, sheet, out };
@@ -109,8 +113,12 @@ fn examiner_refusal(call: Call, n: Option<u8>, settled: Option<&Settled>) -> Opt
     let outside = |setup| n.is_some_and(|n| setup >= 1u64 << n);
     match call {
         Call::Check | Call::Count | Call::UnrankList { .. } => None,
-        Call::Test { setup } | Call::Rank { setup } if outside(setup) => Some(12),
-        Call::Test { .. } => None,
+        Call::Test { setup } | Call::RuledOut { setup } | Call::Rank { setup }
+            if outside(setup) =>
+        {
+            Some(12)
+        }
+        Call::Test { .. } | Call::RuledOut { .. } => None,
         Call::Rank { setup } => settled
             .is_some_and(|settled| !settled.permits(setup))
             .then_some(13),
@@ -234,6 +242,24 @@ impl Settled {
         ranks.items().iter().map(setup).collect()
     }
 
+    /// 0 if the setup is permitted, 1 if nothing is, or 2, p and a setup: p is the smallest number
+    /// such that no permitted setup begins with the same first p settings, and the setup is the
+    /// smallest permitted one that agrees in the first p - 1. It is the next permitted one from
+    /// where those begin that agree so.
+    fn ruled_out(&self, setup: u64) -> [u64; 3] {
+        let Settled { table, counts } = self;
+        let rules_out = |&p: &u64| table.permitted_beginning(setup, p, counts) == 0;
+        match (0..=table.n).find(rules_out) {
+            None => [0, 0, 0],
+            Some(0) => [1, 0, 0],
+            Some(p) => {
+                let left = table.n - (p - 1);
+                let before = table.permitted_below(setup >> left << left, counts);
+                [2, p, table.setup_number(narrow(before), counts)]
+            }
+        }
+    }
+
     /// The value that a call answers if nothing is refused and nothing written.
     fn result(&self, call: Call) -> u64 {
         let Settled { table, counts } = self;
@@ -245,8 +271,8 @@ impl Settled {
             Call::Unrank { rank } => table.setup_number(rank, counts),
             Call::SpanStart { k, j } => narrow(span(self.total(), k, j).0),
             Call::SpanSize { k, j } => narrow(span(self.total(), k, j).1),
-            Call::UnrankList { .. } | Call::PartWrite { .. } => {
-                unreachable!("a list or a part is written or refused")
+            Call::RuledOut { .. } | Call::UnrankList { .. } | Call::PartWrite { .. } => {
+                unreachable!("answered in three words, or written, or refused")
             }
         }
     }

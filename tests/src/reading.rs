@@ -172,6 +172,12 @@ impl Table {
         self.count_under(self.follow(self.root, first, height), height, counts)
     }
 
+    /// How many permitted setups begin with the same first p settings as this one.
+    pub fn permitted_beginning(&self, setup: u64, p: u64, counts: &[u128]) -> u128 {
+        let left = self.n - p;
+        self.permitted_in_block(setup >> left << left, left, counts)
+    }
+
     /// How many permitted setups are below `limit`, which is at most 2^n: the rank of `limit` if
     /// it is permitted. Each set bit of `limit` stands for a block, the setups that have 0 there
     /// and agree with `limit` above it.

@@ -12,10 +12,11 @@ const RECORD_RULES: [u64; 5] = [4, 6, 5, 7, 8];
 const LAST_REFUSAL: u64 = 18;
 
 /// Each operation with the refusals of its own, which come last.
-const OPERATIONS: [(&str, &[u64]); 9] = [
+const OPERATIONS: [(&str, &[u64]); 10] = [
     ("check", &[]),
     ("count", &[]),
     ("test", &[12]),
+    ("ruled out", &[12]),
     ("rank", &[12, 13]),
     ("unrank", &[14]),
     ("unrank list", &[18, 17, 14]),
@@ -29,6 +30,7 @@ fn operation(call: Call) -> &'static str {
         Call::Check => "check",
         Call::Count => "count",
         Call::Test { .. } => "test",
+        Call::RuledOut { .. } => "ruled out",
         Call::Rank { .. } => "rank",
         Call::Unrank { .. } => "unrank",
         Call::UnrankList { .. } => "unrank list",
@@ -48,7 +50,7 @@ fn is_listed(name: &str, number: u64) -> bool {
 pub fn is_listed_answer(call: Call, answer: Answer) -> bool {
     let [value, more @ ..] = answer.words;
     let items = call.list().items().len() as u64;
-    let is_listed = match answer.refusal() {
+    match answer.refusal() {
         Some(Refusal { number, place }) => {
             let places = match (call, number) {
                 (_, 4..=9) => 1..=65_535,
@@ -56,18 +58,27 @@ pub fn is_listed_answer(call: Call, answer: Answer) -> bool {
                 (Call::UnrankList { .. }, 14) => 1..=items,
                 _ => 0..=0,
             };
-            is_listed(operation(call), number) && places.contains(&place)
+            is_listed(operation(call), number) && places.contains(&place) && more == [0, 0]
         }
-        None => match call {
-            Call::Check => value >> 32 <= 63 && value & 0xFFFF_FFFF <= 65_535,
-            Call::Test { .. } => value <= 1,
-            Call::UnrankList { .. } => value == items,
-            Call::PartWrite { .. } => (8..=524_288).contains(&value) && value.is_multiple_of(8),
-            Call::Rank { .. } | Call::Unrank { .. } => value < 1 << 63,
-            Call::Count | Call::SpanStart { .. } | Call::SpanSize { .. } => value <= 1 << 63,
+        None if matches!(call, Call::RuledOut { .. }) => match answer.words {
+            [kind @ 0..=2, p, setup] => (1..=63).contains(&p) == (kind == 2) && setup < 1 << 63,
+            _ => false,
         },
-    };
-    is_listed && more == [0, 0]
+        None => more == [0, 0] && is_listed_value(call, value, items),
+    }
+}
+
+/// Whether a result of one word is one that is listed for its call, which has so many items.
+fn is_listed_value(call: Call, value: u64, items: u64) -> bool {
+    match call {
+        Call::Check => value >> 32 <= 63 && value & 0xFFFF_FFFF <= 65_535,
+        Call::Test { .. } => value <= 1,
+        Call::UnrankList { .. } => value == items,
+        Call::PartWrite { .. } => (8..=524_288).contains(&value) && value.is_multiple_of(8),
+        Call::Rank { .. } | Call::Unrank { .. } => value < 1 << 63,
+        Call::Count | Call::SpanStart { .. } | Call::SpanSize { .. } => value <= 1 << 63,
+        Call::RuledOut { .. } => unreachable!("answered in three words"),
+    }
 }
 
 /// Whether two refusals can hold together. A setup of 2^n or more is neither permitted nor

@@ -138,6 +138,8 @@ fn every_sheet(comparison: &mut Comparison) {
             Call::Count,
             Call::Test { setup },
             Call::Test { setup: 1 << n },
+            Call::RuledOut { setup },
+            Call::RuledOut { setup: 1 << n },
             Call::Rank { setup },
             Call::Rank { setup: 1 << n },
             Call::Unrank { rank },

@@ -163,6 +163,25 @@ fn ranks_and_setups() {
 }
 
 #[test]
+fn setups_ruled_out() {
+    let mut sampler = Sampler::new();
+    let found = |words| Answer { status: 0, words };
+    for (setup, answer) in [
+        (5, found([2, 3, 4])),
+        (6, found([2, 3, 7])),
+        (4, found([0, 0, 0])),
+        (7, found([0, 0, 0])),
+        (8, refused(12, 0)),
+    ] {
+        assert_eq!(sampler.answer(Call::RuledOut { setup }, &A), answer);
+    }
+    for setup in 0..8 {
+        let empty = sampler.answer(Call::RuledOut { setup }, &[0x0C00000000000001]);
+        assert_eq!(empty, found([1, 0, 0]));
+    }
+}
+
+#[test]
 fn lists() {
     let mut comparison = Comparison::of_run();
     // The numbers, the items that the setups have room for, the answer, and the setups.
@@ -261,6 +280,9 @@ fn sheets_and_refused_tables() {
         Call::Count,
         Call::Test { setup: 7 },
         Call::Test { setup: 8 },
+        Call::RuledOut { setup: 7 },
+        Call::RuledOut { setup: 5 },
+        Call::RuledOut { setup: 8 },
         Call::Rank { setup: 7 },
         Call::Rank { setup: 5 },
         Call::Rank { setup: 8 },

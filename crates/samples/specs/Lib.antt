@@ -5,3 +5,4 @@ pub mod Lists
 pub mod Sheets
 pub mod Settings
 pub mod EdgeFirst
+pub mod Exclusion

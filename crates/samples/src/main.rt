@@ -6,6 +6,7 @@ use checking::Tested;
 use diagram::Rank;
 use diagram::Setup;
 use division::Spanned;
+use exclusion::RuledOut;
 use libc::STDOUT_FILENO;
 use lists::Listed;
 use programs::say;
@@ -221,6 +222,25 @@ fn setup_of(name: &[u8], table: &[u8], r: u64) {
     say(b"\n");
 }
 
+// What is found of a setup, in a table of four words at most.
+fn ruled_out(name: &[u8], table: &[u8], x: u64) {
+    say(name);
+    say_number(b", setup ", x);
+    say(b":");
+    let mut sheet = [0u8; 32];
+    let ruled_out = exclusion::ruled_out(table, Setup(x), &mut sheet);
+    match ruled_out {
+        RuledOut::Permitted => say(b" permitted"),
+        RuledOut::Empty => say(b" p = 0"),
+        RuledOut::By(by) => {
+            say_number(b" p = ", by.settings);
+            say_number(b", setup ", by.nearest.0);
+        }
+        RuledOut::Refused(r) => say_refusal(b" ", r),
+    }
+    say(b"\n");
+}
+
 // Item k of a list, if there is one.
 fn say_item(list: &[u8], k: usize) {
     if k < list.len() / 8 {
@@ -328,6 +348,18 @@ fn numbers() {
     setup_of(b"0C00000000000001", &empty[0..8], 0);
 }
 
+fn setups_ruled_out() {
+    let a = bytes_of(&A);
+    ruled_out(b"A", &a, 5);
+    ruled_out(b"A", &a, 6);
+    ruled_out(b"A", &a, 4);
+    ruled_out(b"A", &a, 8);
+    let flagged = bytes_of(&[0x0C00000060000007, A[1], A[2], A[3]]);
+    ruled_out(b"A with header 0C00000060000007", &flagged, 3);
+    let empty = bytes_of(&[0x0C00000000000001]);
+    ruled_out(b"0C00000000000001", &empty[0..8], 5);
+}
+
 fn lists_of_numbers() {
     setups_of(&[0, 4, 5]);
     setups_of(&[5, 5]);
@@ -367,6 +399,7 @@ fn main() {
     setup_too_large();
     sheet_too_short();
     numbers();
+    setups_ruled_out();
     lists_of_numbers();
     divisions();
 }
