@@ -11,6 +11,7 @@ uint64_t setupbook_span_size(T, uint64_t k, uint64_t j, S);
 uint64_t plain_check(T, S), plain_count(T, S), plain_test(T, uint64_t setup, S);
 uint64_t plain_rank(T, uint64_t setup, S), plain_unrank(T, uint64_t rank, S);
 uint64_t plain_span_size(T, uint64_t k, uint64_t j, S), plain_part_write(T, uint64_t k, uint64_t j, S, O);
+uint64_t plain_ruled_out(T, uint64_t setup, S, uint64_t answer[3]);
 uint64_t plain_unrank_list(T, const uint8_t *ranks, size_t ranks_len, S, O, uint64_t answer[3]);
 #undef T
 #undef S
@@ -18,8 +19,8 @@ uint64_t plain_unrank_list(T, const uint8_t *ranks, size_t ranks_len, S, O, uint
 
 const char *operation_name(enum operation op)
 {
-    static const char *const names[] = {"check", "count",      "test",        "rank",         "unrank",
-                                        "span",  "part-write", "list spread", "list in a row"};
+    static const char *const names[] = {"check", "count",      "test",        "rank",          "unrank",
+                                        "span",  "part-write", "list spread", "list in a row", "ruled out"};
     return names[op];
 }
 
@@ -49,6 +50,7 @@ static uint64_t ours(enum operation op, const struct lent *m, struct numbers x)
     case SPAN: return setupbook_span_size(m->table, m->table_len, x.a, x.b, m->sheet, m->sheet_len);
     case PART_WRITE:
         return setupbook_part_write(m->table, m->table_len, x.a, x.b, m->sheet, m->sheet_len, m->out, m->out_len);
+    case RULED_OUT: return setupbook_ruled_out(m->table, m->table_len, x.a, m->sheet, m->sheet_len, m->answer);
     default:
         return setupbook_unrank_list(m->table, m->table_len, m->ranks, m->ranks_len, m->sheet, m->sheet_len, m->out,
                                      m->out_len, m->answer);
@@ -66,6 +68,7 @@ static uint64_t plain(enum operation op, const struct lent *m, struct numbers x)
     case SPAN: return plain_span_size(m->table, m->table_len, x.a, x.b, m->sheet, m->sheet_len);
     case PART_WRITE:
         return plain_part_write(m->table, m->table_len, x.a, x.b, m->sheet, m->sheet_len, m->out, m->out_len);
+    case RULED_OUT: return plain_ruled_out(m->table, m->table_len, x.a, m->sheet, m->sheet_len, m->answer);
     default:
         return plain_unrank_list(m->table, m->table_len, m->ranks, m->ranks_len, m->sheet, m->sheet_len, m->out,
                                  m->out_len, m->answer);

@@ -6,14 +6,14 @@
 #include <stddef.h>
 #include <stdint.h>
 
-enum operation { CHECK, COUNT, TEST, RANK, UNRANK, SPAN, PART_WRITE, LIST_SPREAD, LIST_ROW, OPERATIONS };
+enum operation { CHECK, COUNT, TEST, RANK, UNRANK, SPAN, PART_WRITE, LIST_SPREAD, LIST_ROW, RULED_OUT, OPERATIONS };
 enum side { OURS, PLAIN, SIDES };
 
 #define PARTS 8 /* the division that is timed: part 3 of 8 */
 #define PART 3
 #define ITEMS 8192 /* numbers of the lists that are timed */
 
-/* The memories lent to a call. A list's setups go to the out memory; its answer has three words. */
+/* The memories lent to a call. A list's setups go to the out memory; its answer and ruled-out's have three words. */
 struct lent {
     const uint8_t *table;
     size_t table_len;

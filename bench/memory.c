@@ -71,5 +71,7 @@ struct numbers draw_numbers(enum operation op, const struct table *t, const stru
     if (is_list(op)) return (struct numbers){0, 0};
     if (op == UNRANK) return (struct numbers){rank, 0};
     if (op == TEST && next_random(seed) >> 63) return (struct numbers){r >> (64 - t->settings), 0};
-    return (struct numbers){call(PLAIN, UNRANK, m, (struct numbers){rank, 0}), 0};
+    uint64_t permitted = call(PLAIN, UNRANK, m, (struct numbers){rank, 0});
+    if (op == RULED_OUT) permitted ^= (uint64_t)1 << next_random(seed) % t->settings;
+    return (struct numbers){permitted, 0};
 }

@@ -6,7 +6,7 @@
 #include "tables.h"
 
 #define GUARD 64 /* bytes behind each memory; no call may touch those that it is not lent */
-#define ANSWER 24 /* bytes of a list's answer */
+#define ANSWER 24 /* bytes of an answer in three words */
 
 /* Memory for any operation on this table; the lengths lent and the list are set for one operation. */
 struct lent lend(const struct table *t);
@@ -16,8 +16,9 @@ void give_back(struct lent *m);
 /* The bytes of out memory: for every part of the table, and for ITEMS setups. */
 size_t out_room(const struct table *t);
 
-/* Numbers for a timed call: every rank is below C, every setup that is ranked is permitted, and
- * of those tested about half are picked for it. Uses the table and the sheet of `m`. */
+/* Numbers for a timed call: every rank is below C, every setup that is ranked is permitted, of those
+ * tested about half are picked for it, and one that may be ruled out is a permitted one with a setting
+ * turned over. Uses the table and the sheet of `m`. */
 struct numbers draw_numbers(enum operation op, const struct table *t, const struct lent *m, uint64_t *seed);
 
 #endif

@@ -1,6 +1,6 @@
 /*
- * The setup book: rank, unrank, also of a list, and part-write over a reduced OBDD with complement
- * edges.
+ * The setup book: rank, unrank, also of a list, the settings that rule a setup out, and part-write
+ * over a reduced OBDD with complement edges.
  *
  * A table is a decision diagram over n settings (0 to 63) with N nodes (0 to 65,535) as a row of
  * N + 1 words of 64 bits, most significant byte first; docs/FORMAT.md has the fields. It permits
@@ -31,8 +31,8 @@
  * Out memory and `setups` afterwards: the part, or the setups, in front, if they were written; all
  * other bytes are unchanged.
  *
- * Answer, of a function with `answer`: 0, with the result in answer[0], or the number of the
- * refusal, with its place in answer[0]; the other words of `answer` are 0. Of the others: the
+ * Answer, of a function with `answer`: 0, with the result in `answer`, or the number of the
+ * refusal, with its place in answer[0]; the words of `answer` that are not named are 0. Of the others: the
  * result, which is below 2^63, or 2^63 + 2^32 * refusal + place. The place is the record k (1 to
  * N) for refusals 4 to 9, the item (from 1) for 17 and for 14 of a list, otherwise 0. The first
  * refusal that holds is answered, in this order:
@@ -48,7 +48,7 @@
  *      7    its then-edge is complemented
  *      8    its two edges are equal
  *      9  no record has an edge to record k, which is below N; the lowest such k
- *     12  rank: the setup is 2^n or more
+ *     12  rank, ruled out: the setup is 2^n or more
  *     13  rank: the setup is not permitted
  *     18  unrank a list: `setups` has fewer items than `ranks`
  *     17  unrank a list: a rank is below the one before it; the first such item
@@ -74,6 +74,13 @@ uint64_t setupbook_rank(const uint8_t *table, size_t table_len, uint64_t setup,
 /* The permitted setup that has this rank. Refusals 1 to 10, 14. */
 uint64_t setupbook_unrank(const uint8_t *table, size_t table_len, uint64_t rank,
                           uint8_t *sheet, size_t sheet_len);
+
+/* The settings that rule a setup out. answer[0] is 0 if the setup is permitted; 1 if nothing is; or 2,
+ * with p in answer[1] and a setup in answer[2]. p, from 1 to n, is the smallest number such that no
+ * permitted setup begins with the same first p settings, and the setup is the smallest permitted one
+ * that agrees in the first p - 1. Refusals 1 to 10, 12. */
+uint64_t setupbook_ruled_out(const uint8_t *table, size_t table_len, uint64_t setup,
+                             uint8_t *sheet, size_t sheet_len, uint64_t answer[3]);
 
 /* The setups of a list of ranks that never fall, of any length, each as setupbook_unrank gives it.
  * answer[0] is how many. Refusals 1 to 10, 18, 17, 14. */

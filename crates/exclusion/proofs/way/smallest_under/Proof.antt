@@ -33,12 +33,6 @@ turned-requires c κs =
     let K = came f .loop .inv in
     turns _ _ _ _ _ _ _ K (f .fork-at .ensures _ (K .lies))
 
-loop-less : tie.Need-loop-less Inv-loop μ-loop
-loop-less c =
-    let f = c .before .before .before in
-    let F = f .fork-at .ensures _ (came f .loop .inv .lies) in
-    rw (c .at .ensures) (omega (arith, F .height-is, F .lower (eqb (f .fork-at .result .sides .low .value) 1)))
-
 loop-again : tie.Need-loop-again Inv-loop μ-loop
 loop-again c =
     let f = c .before .before .before in
@@ -48,6 +42,12 @@ loop-again c =
       | inl s ↦ seeks-on _ _ _ _ _ _ _ K F _ refl _ (c .at .ensures) _ (s .0 .taken) (ap (λ x. x .0) (s .2) ∙ s .1 .ensures)
       | inr s ↦ seeks-off _ _ _ _ _ _ _ K F _ refl _ (c .at .ensures) _ (s .0 .left) (ap (λ x. x .0) (s .1))
     ]
+
+loop-less : tie.Need-loop-less Inv-loop μ-loop
+loop-less c =
+    let f = c .before .before .before in
+    let F = f .fork-at .ensures _ (came f .loop .inv .lies) in
+    rw (c .at .ensures) (omega (arith, F .height-is, F .lower (eqb (f .fork-at .result .sides .low .value) 1)))
 
 returns : tie.Need-returns Inv-loop μ-loop
 returns c = let node = c .before .before in sought _ _ _ _ (node .before .loop .inv) (omega (arith, node .node .ensures, c .if1 .left))
