@@ -10,10 +10,10 @@ abbrev pub single : ℕ → List ℕ
 single v = v ∷ 0 ∷ 0 ∷ []
 
 -- what was found of a setup: 0 if it is permitted, 1 and p where no setup is given, which is 0, or 2, p and the setup given
-unfoldable pub found : Finding → List ℕ
-found isPermitted = single 0
-found (ruledOut p none) = 1 ∷ p ∷ 0 ∷ []
-found (ruledOut p (some y)) = 2 ∷ p ∷ y ∷ []
+unfoldable pub foundWords : Finding → List ℕ
+foundWords isPermitted = single 0
+foundWords (ruledOut p none) = 1 ∷ p ∷ 0 ∷ []
+foundWords (ruledOut p (some y)) = 2 ∷ p ∷ y ∷ []
 
 -- what is returned: 0, or the refusal's number
 unfoldable pub returned : {A : Type 0} → Answer A → ℕ

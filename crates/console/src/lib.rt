@@ -11,10 +11,9 @@ ghost use Rattle.exclusion.specs.Operations.{rulingOut};
 ghost use Rattle.lists.specs.Operations.{items, unrankingList, setupsAfter};
 ghost use Rattle.tables.specs.Writing.{lengthOf};
 ghost use Rattle.parts.specs.Operations.{partWriting, Promise};
-ghost use Rattle.console.specs.Told.{single, found, returned, told};
+ghost use Rattle.console.specs.Told.{single, foundWords, returned, told};
 use diagram::Rank;
 use diagram::Setup;
-use exclusion::RuledOut;
 use lists::Listed;
 use ranking::Ranked;
 use ranking::Unranked;
@@ -55,16 +54,11 @@ pub extern "C" fn setupbook_ruled_out(
     answer: &mut [u64; 3],
 ) -> u64
     ensures { λ r. ⌜ (r ≡ returned (rulingOut (now (table .entry)) setup (now (sheet .entry))))
-        × (now (answer .exit) ≡ told found (rulingOut (now (table .entry)) setup (now (sheet .entry))))
+        × (now (answer .exit) ≡ told foundWords (rulingOut (now (table .entry)) setup (now (sheet .entry))))
         × (now (sheet .exit) ≡ blank (now (table .entry)) (now (sheet .entry))) ⌝ }
 {
-    let ruled_out = exclusion::ruled_out(table, Setup(setup), sheet);
-    match ruled_out {
-        RuledOut::Permitted => told::tell(0, 0, 0, answer),
-        RuledOut::Empty => told::tell(1, 0, 0, answer),
-        RuledOut::By(by) => told::tell(2, by.settings, by.nearest.0, answer),
-        RuledOut::Refused(r) => told::tell_refusal(r, answer),
-    }
+    let found = exclusion::ruled_out(table, Setup(setup), sheet);
+    told::tell_found(found, answer)
 }
 
 // The setups of a list of ranks: how many.

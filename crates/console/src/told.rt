@@ -2,7 +2,9 @@
 ghost use mathlib.Core.Path.{_≡_};
 ghost use mathlib.Core.List.{[], _∷_};
 ghost use Rattle.rules.specs.Refusals.{numberOf, placeOf};
-ghost use Rattle.console.specs.Told.{single};
+ghost use Rattle.exclusion.specs.Answers.{foundAs};
+ghost use Rattle.console.specs.Told.{single, foundWords, returned, told};
+use exclusion::RuledOut;
 use rules::Refusal;
 
 // Tells three words: 0 is returned.
@@ -19,4 +21,16 @@ pub fn tell_refusal(refusal: Refusal, answer: &mut [u64; 3]) -> u64
 {
     *answer = [rules::place_of(refusal) as u64, 0, 0];
     rules::number_of(refusal)
+}
+
+// Tells what was found of a setup.
+pub fn tell_found(found: RuledOut, answer: &mut [u64; 3]) -> u64
+    ensures { λ r. ⌜ (r ≡ returned (foundAs found)) × (now (answer .exit) ≡ told foundWords (foundAs found)) ⌝ }
+{
+    match found {
+        RuledOut::Permitted => tell(0, 0, 0, answer),
+        RuledOut::Empty => tell(1, 0, 0, answer),
+        RuledOut::By(by) => tell(2, by.settings, by.nearest.0, answer),
+        RuledOut::Refused(r) => tell_refusal(r, answer),
+    }
 }
