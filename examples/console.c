@@ -5,6 +5,9 @@
  *     numbers FILE    prints the setups of a file of ranks, one a line and none below the one before
  *                     it, by one call
  *     setup DIGITS    prints the rank of the setup with these binary digits
+ *     why DIGITS      prints the first settings of the setup with these binary digits by which it is
+ *                     ruled out, and the smallest permitted setup that agrees in all but the last of
+ *                     them; or `permitted`, or `nothing is permitted`
  *     parts K         writes the K parts of the table to FOLDER (or here), as part0.table,
  *                     part1.table, ..., reads them back and lists the first setups of each: its
  *                     rank in the part, its digits and its rank in the whole table
@@ -172,6 +175,25 @@ static void answer_setup(const struct book *book, uint64_t setup)
         printf("%" PRIu64 "\n", answer);
 }
 
+static void answer_why(const struct book *book, uint64_t setup)
+{
+    uint64_t answer[3];
+    uint64_t refusal = setupbook_ruled_out(book->table, book->table_len, setup,
+                                           book->sheet, book->sheet_len, answer);
+    unsigned n = settings(book), p = (unsigned)answer[1];
+    if (refusal != 0)
+        print_refused(refusal, answer[0]);
+    else if (answer[0] == 0)
+        puts("permitted");
+    else if (answer[0] == 1)
+        puts("nothing is permitted");
+    else {
+        print_setup(setup >> (n - p), p);
+        putchar(' ');
+        print_line(book, answer[2]);
+    }
+}
+
 /* Item i of a list: 8 bytes, most significant first. */
 static void put_item(uint8_t *list, size_t i, uint64_t number)
 {
@@ -307,6 +329,10 @@ static void answer_line(const struct book *book, const char *folder, const char 
         answer_setup(book, given);
     else if (strcmp(line, "setup -") == 0 && settings(book) == 0)
         answer_setup(book, 0);
+    else if (strncmp(line, "why ", 4) == 0 && parse(line + 4, 2, &given))
+        answer_why(book, given);
+    else if (strcmp(line, "why -") == 0 && settings(book) == 0)
+        answer_why(book, 0);
     else if (strncmp(line, "parts ", 6) == 0 && parse(line + 6, 10, &given))
         answer_parts(book, given, folder);
     else
