@@ -12,6 +12,9 @@ module _ (n x : ℕ) (P : ℕ → Bool) (few : n ≤ 63) where
   unfolding testSetup
   too-large l = rw (le-leb (2 ^ n) x (rw (one-shl n few) at l))
 
+  pub in-range : x < 1 * 2 ^ n % 18446744073709551616 → x < 2 ^ n
+  in-range l = rw (one-shl n few) at l
+
   pub tested : x < 1 * 2 ^ n % 18446744073709551616 → (b : Bool) → b ≡ P x → value b ≡ testSetup x n P
   unfolding testSetup
-  tested l b q = rw (lt-leb (2 ^ n) x (rw (one-shl n few) at l), q)
+  tested l b q = rw (lt-leb (2 ^ n) x (in-range l), q)

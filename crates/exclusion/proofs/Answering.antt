@@ -13,8 +13,7 @@ use Rattle.diagram.specs.Format.{Words, height}
 use Rattle.diagram.specs.Meaning.{under}
 use Rattle.diagram.specs.Count.{smallest}
 use Rattle.diagram.specs.Answer.{value, refusal, andThen}
-use Rattle.counting.proofs.Places.{one-shl}
-use Rattle.checking.proofs.Answering.{too-large, tested}
+use Rattle.checking.proofs.Answering.{too-large, in-range, tested}
 use Rattle.exclusion.specs.Finding.{Finding, isPermitted, ruledOut, finding}
 use Rattle.exclusion.specs.Operations.{findSetup}
 use Rattle.exclusion.specs.Inner.{LiesIn, Follows, turnedAt}
@@ -32,8 +31,8 @@ module _ (t : List ℕ) (n from x e h other : ℕ) (F : Follows t n from x e h o
   abbrev P : ℕ → Bool
   P = under w from
 
-  in-range : x < 2 ^ n
-  in-range = rw (one-shl n few) at l
+  small : x < 2 ^ n
+  small = in-range n x P few l
 
   answers : (f : Finding) → finding P n x ≡ f → value f ≡ findSetup x n P
   unfolding findSetup andThen
@@ -41,7 +40,7 @@ module _ (t : List ℕ) (n from x e h other : ℕ) (F : Follows t n from x e h o
 
   -- by `always`
   pub ends-permitted : e ≡ 0 → value isPermitted ≡ findSetup x n P
-  ends-permitted q = answers isPermitted (found-permitted t n from x e h other (F .0) in-range q)
+  ends-permitted q = answers isPermitted (found-permitted t n from x e h other (F .0) small q)
 
   -- by `never`
   module _ (some-flag : e ≡ 0 → ⊥) where
@@ -49,19 +48,19 @@ module _ (t : List ℕ) (n from x e h other : ℕ) (F : Follows t n from x e h o
     never = omega (arith, F .1, some-flag)
 
     pub ends-empty : n < h → value (ruledOut 0 none) ≡ findSetup x n P
-    ends-empty i = answers (ruledOut 0 none) (found-nothing t n from x e h other (F .0) in-range never i)
+    ends-empty i = answers (ruledOut 0 none) (found-nothing t n from x e h other (F .0) small never i)
 
     -- behind a node
     module _ (i : h ≤ n) where
       pub turns : (0 < h) × (h ≤ 63) × (x < 2 ^ 63)
-      turns = (F .0 .tall, omega arith, lt-of-lt-of-le in-range (pow-mono few))
+      turns = (F .0 .tall, omega arith, lt-of-lt-of-le small (pow-mono few))
 
       pub goes-on : LiesIn t other × (other ≢ 1)
       goes-on = let Q = F .0 .passed i in ((n, Q .lies), λ q. Q .differ (q ∙ sym never))
 
       module _ (front rest : ℕ) (front-is : front ≡ turnedAt h x) (rest-is : smallest (under w other) (2 ^ height w (other / 2)) ≡ some rest) where
         pub sum-fits : front + rest < 18446744073709551616
-        sum-fits = rw front-is (omega (arith, nearest-fits t n from x e h other (F .0) in-range never i rest rest-is, pow-lt {i = n} {j = 64} (omega arith)))
+        sum-fits = rw front-is (omega (arith, nearest-fits t n from x e h other (F .0) small never i rest rest-is, pow-lt {i = n} {j = 64} (omega arith)))
 
         pub ends-ruled : value (ruledOut (n + 1 - h) (some (front + rest))) ≡ findSetup x n P
-        ends-ruled = answers (ruledOut (n + 1 - h) (some (front + rest))) (rw front-is (found-ruled t n from x e h other (F .0) in-range never i rest rest-is))
+        ends-ruled = answers (ruledOut (n + 1 - h) (some (front + rest))) (rw front-is (found-ruled t n from x e h other (F .0) small never i rest rest-is))

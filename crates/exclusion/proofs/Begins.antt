@@ -1,16 +1,16 @@
 -- Which setups begin as another does, and what is found of a setup, over any test. Assumes nothing.
-use Prim.Native.Nat.{ℕ, zero, suc, _+_, _-_, _/_, _^_, _≤_, _<_}
+use Prim.Native.Nat.{ℕ, suc, _+_, _-_, _/_, _^_, _≤_, _<_}
 use mathlib.Core.Path.{_≡_, refl, sym, ap, _∙_}
-use mathlib.Core.Bool.{Bool, true, false, not, _&&_, true≢false}
-use mathlib.Core.Option.{Option, none, some}
+use mathlib.Core.Bool.{Bool, true, false, not, true≢false}
+use mathlib.Core.Option.{none, some}
 use native.Mathlib.Omega.{arith}
 use lib.Dec.{eqb}
-use borrow.Author.Tests.{eqb-true, eq-eqb, not-true, not-false}
+use borrow.Author.Tests.{eqb-true, eq-eqb, not-false}
 use Rattle.words.proofs.Cases.{less, same, more, tri, both-true}
 use Rattle.diagram.specs.Count.{smallest, someBelow}
 use Rattle.diagram.proofs.AnswerLaws.{some-at, some-found}
 use Rattle.diagram.proofs.Select.{Least, smallest-is, smallest-none}
-use Rattle.exclusion.specs.Finding.{agree, beginsAs, noneBegins, firstRuling, given, Finding, isPermitted, ruledOut, findingBy, finding}
+use Rattle.exclusion.specs.Finding.{agree, beginsAs, noneBegins, firstRuling, given, isPermitted, ruledOut, findingBy, finding}
 use Rattle.exclusion.proofs.Digits.{above}
 
 module _ (P : ℕ → Bool) (n x : ℕ) where

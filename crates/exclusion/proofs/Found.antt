@@ -1,7 +1,6 @@
 -- What is found of a setup whose way was followed to the sink, in the terms of the code. Assumes nothing.
 use Prim.Native.Nat.{ℕ, suc, _+_, _-_, _*_, _/_, _%_, _^_, _≤_, _<_}
 use mathlib.Core.Path.{_≡_, refl, sym, ap, subst, _∙_}
-use mathlib.Core.Logic.{_≢_}
 use mathlib.Core.Bool.{Bool, true, false, not, true≢false}
 use mathlib.Core.List.{List}
 use mathlib.Core.Option.{some, none}
@@ -15,7 +14,7 @@ use Rattle.diagram.specs.Count.{smallest}
 use Rattle.diagram.proofs.Paths.{under-always, under-never}
 use Rattle.diagram.proofs.Local.{under-mod}
 use Rattle.diagram.proofs.Select.{Least, smallest-least}
-use Rattle.exclusion.specs.Finding.{beginsAs, isPermitted, ruledOut, finding}
+use Rattle.exclusion.specs.Finding.{isPermitted, ruledOut, finding}
 use Rattle.exclusion.specs.Inner.{Passed, Follows, turnedAt}
 use Rattle.exclusion.proofs.Digits.{above, fits, same-digit, turned-bit, turned-above, turned-whole}
 use Rattle.exclusion.proofs.Begins.{Same, begins-is, is-begins, finds-permitted, finds-nothing, finds-ruled}

@@ -15,7 +15,7 @@ use Rattle.diagram.specs.Meaning.{permitted}
 use Rattle.diagram.specs.Count.{total}
 use Rattle.diagram.specs.Answer.{Answer, value, refusal, andThen}
 use Rattle.diagram.proofs.AnswerLaws.{refused-not, value-inj, then-some}
-use Rattle.diagram.proofs.Refusals.{Refuses, passes, then-refuses}
+use Rattle.diagram.proofs.Refusals.{passes, then-refuses}
 use Rattle.checking.specs.Operations.{checking, testSetup, testing, blank}
 use Rattle.checking.specs.Sheets.{HandedBack}
 use Rattle.checking.proofs.Bounds.{test-refuses}
