@@ -32,10 +32,10 @@
  * other bytes are unchanged.
  *
  * Answer, of a function with `answer`: 0, with the result in `answer`, or the number of the
- * refusal, with its place in answer[0]; the words of `answer` that are not named are 0. Of the others: the
- * result, which is below 2^63, or 2^63 + 2^32 * refusal + place. The place is the record k (1 to
- * N) for refusals 4 to 9, the item (from 1) for 17 and for 14 of a list, otherwise 0. The first
- * refusal that holds is answered, in this order:
+ * refusal, with its place in answer[0]; the words of `answer` that are not needed are 0. Of the
+ * others: the result, which is below 2^63, or 2^63 + 2^32 * refusal + place. The place is the
+ * record k (1 to N) for refusals 4 to 9, the item (from 1) for 17 and for 14 of a list, otherwise
+ * 0. The first refusal that holds is answered, in this order:
  *      1  table_len is under 8
  *      2  N is above 65,535
  *      1  table_len is not 8 * (N + 1)
@@ -75,10 +75,10 @@ uint64_t setupbook_rank(const uint8_t *table, size_t table_len, uint64_t setup,
 uint64_t setupbook_unrank(const uint8_t *table, size_t table_len, uint64_t rank,
                           uint8_t *sheet, size_t sheet_len);
 
-/* The settings that rule a setup out. answer[0] is 0 if the setup is permitted; 1 if nothing is; or 2,
- * with p in answer[1] and a setup in answer[2]. p, from 1 to n, is the smallest number such that no
- * permitted setup begins with the same first p settings, and the setup is the smallest permitted one
- * that agrees in the first p - 1. Refusals 1 to 10, 12. */
+/* The settings that rule a setup out. answer[0] is 0 if the setup is permitted, 1 if nothing is, or
+ * 2, with p in answer[1] and a setup in answer[2]: p, from 1 to n, is the smallest number such that
+ * no permitted setup begins with the same first p settings, and the setup is the smallest permitted
+ * one that agrees in the first p - 1. Refusals 1 to 10, 12. */
 uint64_t setupbook_ruled_out(const uint8_t *table, size_t table_len, uint64_t setup,
                              uint8_t *sheet, size_t sheet_len, uint64_t answer[3]);
 

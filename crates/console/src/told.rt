@@ -30,7 +30,7 @@ pub fn tell_found(found: RuledOut, answer: &mut [u64; 3]) -> u64
     match found {
         RuledOut::Permitted => tell(0, 0, 0, answer),
         RuledOut::Empty => tell(1, 0, 0, answer),
-        RuledOut::By(by) => tell(2, by.settings, by.nearest.0, answer),
+        RuledOut::By(by) => tell(2, by.settings, by.given.0, answer),
         RuledOut::Refused(r) => tell_refusal(r, answer),
     }
 }

@@ -17,7 +17,7 @@ use Rattle.checking.proofs.Answering.{too-large, in-range, tested}
 use Rattle.exclusion.specs.Finding.{Finding, isPermitted, ruledOut, finding}
 use Rattle.exclusion.specs.Operations.{findSetup}
 use Rattle.exclusion.specs.Inner.{LiesIn, Follows, turnedAt}
-use Rattle.exclusion.proofs.Found.{found-permitted, found-nothing, nearest-fits, found-ruled}
+use Rattle.exclusion.proofs.Found.{found-permitted, found-nothing, given-fits, found-ruled}
 
 pub out-of-range : (n x : ℕ) (P : ℕ → Bool) → n ≤ 63 → 1 * 2 ^ n % 18446744073709551616 ≤ x → refusal 12 0 ≡ findSetup x n P
 unfolding findSetup andThen
@@ -60,7 +60,7 @@ module _ (t : List ℕ) (n from x e h other : ℕ) (F : Follows t n from x e h o
 
       module _ (front rest : ℕ) (front-is : front ≡ turnedAt h x) (rest-is : smallest (under w other) (2 ^ height w (other / 2)) ≡ some rest) where
         pub sum-fits : front + rest < 18446744073709551616
-        sum-fits = rw front-is (omega (arith, nearest-fits t n from x e h other (F .0) small never i rest rest-is, pow-lt {i = n} {j = 64} (omega arith)))
+        sum-fits = rw front-is (omega (arith, given-fits t n from x e h other (F .0) small never i rest rest-is, pow-lt {i = n} {j = 64} (omega arith)))
 
         pub ends-ruled : value (ruledOut (n + 1 - h) (some (front + rest))) ≡ findSetup x n P
         ends-ruled = answers (ruledOut (n + 1 - h) (some (front + rest))) (rw front-is (found-ruled t n from x e h other (F .0) small never i rest rest-is))

@@ -73,8 +73,8 @@ module _ (t : List ℕ) (n from x e h other : ℕ) (F : Follows t n from x e h o
       agrees : (front + rest) / 2 ^ h ≡ x / 2 ^ h
       agrees = above (h - 1) h front (front + rest) (omega arith) digits ∙ turned-above h (F .tall) x
 
-      pub nearest-fits : front + rest < 2 ^ n
-      nearest-fits = fits h n x (front + rest) few x-fits agrees
+      pub given-fits : front + rest < 2 ^ n
+      given-fits = fits h n x (front + rest) few x-fits agrees
 
       permits : P (front + rest) ≡ true
       permits = Q .across (front + rest) digits ∙ sym (other-mod (h - 1) (front + rest) (omega (arith, Q .lower))) ∙ ap (under w other) last-digits ∙ least .passes
@@ -102,7 +102,7 @@ module _ (t : List ℕ) (n from x e h other : ℕ) (F : Follows t n from x e h o
           let at : n - suc (n - h) ≡ h - 1 = omega arith in
           let lower : (y : ℕ) → Same P n x (n - h) y → y / 2 ^ h ≡ x / 2 ^ h = λ y. subst (λ (g : ℕ). y / 2 ^ g ≡ x / 2 ^ g) before in
           finds-ruled P n x (n - h) (front + rest) (omega (arith, F .tall)) (λ y _ q. dead y (subst (λ (g : ℕ). y / 2 ^ g ≡ x / 2 ^ g) at q)) (record {
-            below = nearest-fits;
+            below = given-fits;
             passes = is-begins P n x (n - h) (front + rest) permits (subst (λ (g : ℕ). (front + rest) / 2 ^ g ≡ x / 2 ^ g) (sym before) agrees);
             least = λ y _ b. let i = begins-is P n x (n - h) y b in none-smaller y (i .0) (lower y (i .1));
           }) ∙ ap (λ (m : ℕ). ruledOut m (some (front + rest))) p

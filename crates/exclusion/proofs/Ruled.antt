@@ -49,15 +49,12 @@ module _ (P : ℕ → Bool) (n x : ℕ) (l : x < 2 ^ n) where
   empty-if e = count-none P (2 ^ n) (λ y i. none-begins P n x 0 e y i (none-before y i))
 
   -- p is 0 exactly where nothing is permitted
-  pub zero-exactly : (p : ℕ) (o : Option ℕ) → finding P n x ≡ ruledOut p o → (p ≡ 0) ↔ (countBelow P (2 ^ n) ≡ 0)
-  zero-exactly p o e = (λ q. empty-if (subst (λ (r : ℕ). noneBegins P n x r ≡ true) q (ruled-is p o e .0 .passes)), back)
+  pub zero-exactly : (finding P n x ≡ ruledOut 0 none) ↔ (countBelow P (2 ^ n) ≡ 0)
+  zero-exactly = (λ e. empty-if (ruled-is 0 none e .0 .passes), λ z. finds-nothing P n x l (λ y i. nothing z y i (P y) refl))
     where
       nothing : countBelow P (2 ^ n) ≡ 0 → (y : ℕ) → y < 2 ^ n → (b : Bool) → P y ≡ b → P y ≡ false
       nothing z y i true p = absurd (omega (arith, z, count-mono-lt P p i))
       nothing z y i false p = p
-
-      back : countBelow P (2 ^ n) ≡ 0 → p ≡ 0
-      back z = let f = sym e ∙ finds-nothing P n x l (λ y i. nothing z y i (P y) refl) in cc
 
   -- otherwise an unpermitted setup has a p from 1 to n, and a setup is given
   pub ruled-between : P x ≡ false → 0 < countBelow P (2 ^ n) → (p : ℕ) × (y : ℕ) × (finding P n x ≡ ruledOut p (some y)) × (1 ≤ p) × (p ≤ n)

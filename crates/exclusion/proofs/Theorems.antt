@@ -4,7 +4,7 @@ use mathlib.Core.Path.{_≡_, refl, sym, ap, _∙_}
 use mathlib.Core.Logic.{_↔_}
 use mathlib.Core.Bool.{Bool, true, false}
 use mathlib.Core.List.{List}
-use mathlib.Core.Option.{Option, some}
+use mathlib.Core.Option.{none, some}
 use native.Mathlib.Omega.{arith}
 use lib.Dec.{leb}
 use borrow.Author.Tests.{leb-false}
@@ -78,10 +78,12 @@ module _ (t s : List ℕ) (x : ℕ) where
     λ e. (let i = test-is true e in finds true e ∙ ap value (finds-permitted P n x (i .0) (i .1))),
   )
 
-  -- p is 0 exactly where C is
-  pub zero-where-empty : (p : ℕ) (o : Option ℕ) → rulingOut t x s ≡ value (ruledOut p o) → (p ≡ 0) ↔ (total w ≡ 0)
+  -- of every setup that can be tested: p is 0 exactly where C is
+  pub zero-where-empty : (b : Bool) → testing t x s ≡ value b → (rulingOut t x s ≡ value (ruledOut 0 none)) ↔ (total w ≡ 0)
   unfolding total
-  zero-where-empty p o e = let f = found (ruledOut p o) e in ruled.zero-exactly P n x (f .1) p o (f .2)
+  zero-where-empty b e =
+      let exactly = ruled.zero-exactly P n x (test-is b e .0) in
+      (λ r. exactly .0 (found (ruledOut 0 none) r .2), λ z. finds b e ∙ ap value (exactly .1 z))
 
   -- an unpermitted setup of a table that permits some has a p from 1 to n, and is given a setup
   pub ruled-where-not : testing t x s ≡ value false → 0 < total w → (p : ℕ) × (y : ℕ) × (rulingOut t x s ≡ value (ruledOut p (some y))) × (1 ≤ p) × (p ≤ n)

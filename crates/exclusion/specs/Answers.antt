@@ -10,5 +10,5 @@ use Rattle.exclusion.specs.declared.RuledOut.the-variants.{Permitted, Em
 abbrev pub foundAs : RuledOut → Answer Finding
 foundAs Permitted = value isPermitted
 foundAs Empty = value (ruledOut 0 none)
-foundAs (By e) = value (ruledOut (e .settings) (some (e .nearest .0)))
+foundAs (By e) = value (ruledOut (e .settings) (some (e .given .0)))
 foundAs (Refused r) = refusal (numberOf r) (placeOf r)

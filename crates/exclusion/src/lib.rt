@@ -16,7 +16,7 @@ use rules::Refusal;
 // p, from 1 to n: no permitted setup begins with the same first p settings. And the smallest permitted setup that agrees in the first p - 1.
 pub struct Exclusion {
     pub settings: u64,
-    pub nearest: Setup,
+    pub given: Setup,
 }
 
 // The setup is permitted; or nothing is, and p is 0; or it is ruled out.
@@ -46,7 +46,7 @@ fn find_setup(table: &[u8], n: u64, e: Edge, x: Setup) -> RuledOut
     let rest = way::smallest_under(table, way.other);
     RuledOut::By(Exclusion {
         settings: n + 1 - way.height,
-        nearest: Setup(front.0 + rest.0),
+        given: Setup(front.0 + rest.0),
     })
 }
 

@@ -234,7 +234,7 @@ fn ruled_out(name: &[u8], table: &[u8], x: u64) {
         RuledOut::Empty => say(b" p = 0"),
         RuledOut::By(by) => {
             say_number(b" p = ", by.settings);
-            say_number(b", setup ", by.nearest.0);
+            say_number(b", setup ", by.given.0);
         }
         RuledOut::Refused(r) => say_refusal(b" ", r),
     }
