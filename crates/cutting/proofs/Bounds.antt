@@ -1,6 +1,6 @@
--- Comparing with a bound, setting by setting; and an edge's cofactor at the setup's own setting. Assumes nothing.
-use Prim.Native.Nat.{ℕ, zero, suc, _+_, _-_, _*_, _/_, _%_, _^_, _≤_, _<_}
-use mathlib.Core.Path.{_≡_, sym, ap, subst, _∙_}
+-- Comparing with a bound, setting by setting. Assumes nothing.
+use Prim.Native.Nat.{ℕ, zero, suc, _+_, _-_, _*_, _/_, _%_, _^_, _<_}
+use mathlib.Core.Path.{_≡_, sym, subst, _∙_}
 use mathlib.Core.Bool.{Bool, true, false, cond, Bool·beq}
 use native.Mathlib.Omega.{arith}
 use native.Mathlib.Nat.{mod-lt}
@@ -8,13 +8,7 @@ use lib.Dec.{eqb, leb, lit<}
 use lib.Pow.{pow-pos, mod-pow-add}
 use borrow.Author.Tests.{le-leb, lt-leb}
 use Rattle.words.proofs.Cases.{less, same, more, tri}
-use Rattle.diagram.specs.Format.{Words, height}
-use Rattle.diagram.specs.Meaning.{bit, under}
-use Rattle.diagram.specs.Ordered.{Ordered}
-use Rattle.diagram.specs.Reading.{cofactor}
-use Rattle.diagram.proofs.Bits.{withBit}
-use Rattle.diagram.proofs.Local.{under-mod}
-use Rattle.diagram.proofs.Cofactor.{cofactor-with}
+use Rattle.diagram.specs.Meaning.{bit}
 
 -- x is on a bound's side: not below it (side true), or not above it (side false)
 abbrev pub onSide : Bool → ℕ → ℕ → Bool
@@ -64,18 +58,3 @@ side-settings s h a x p = rw (low-settings h a p, low-settings h x p) (go s (a /
     go s (suc (suc d)) e l m = absurd (omega arith)
     go s zero (suc (suc e)) l m = absurd (omega arith)
     go s (suc zero) (suc (suc e)) l m = absurd (omega arith)
-
--- x with its own setting
-with-own : (h x : ℕ) → 0 < h → withBit (bit h x) h x ≡ x % 2 ^ h
-unfolding bit withBit
-with-own h x p = go (x / 2 ^ (h - 1) % 2) (mod-lt (x / 2 ^ (h - 1)) (lit< tt)) ∙ sym (low-settings h x p)
-  where
-    go : (d : ℕ) → d < 2 → withBit (eqb d 1) h x ≡ d * 2 ^ (h - 1) + x % 2 ^ (h - 1)
-    go zero l = omega arith
-    go (suc zero) l = omega arith
-    go (suc (suc d)) l = absurd (omega arith)
-
--- an edge means what its cofactor at the setup's own setting does
-pub cofactor-under : (w : Words) (n N : ℕ) → Ordered w n N → (e h x : ℕ) → e / 2 ≤ N → height w (e / 2) ≤ h → 0 < h → under w e x ≡ under w (cofactor w h (bit h x) e) x
-cofactor-under w n N D e h x inside low some =
-    sym (under-mod w n N D e h x inside low) ∙ ap (under w e) (sym (with-own h x some)) ∙ cofactor-with w n N D e h inside low some (bit h x) x

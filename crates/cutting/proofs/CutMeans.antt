@@ -9,9 +9,10 @@ use Rattle.diagram.specs.Meaning.{bit, branch, flip, plain, under}
 use Rattle.diagram.specs.Ordered.{Ordered}
 use Rattle.diagram.specs.Reading.{cofactor}
 use Rattle.diagram.proofs.Paths.{side, under-never, plain-branch}
+use Rattle.diagram.proofs.Cofactor.{cofactor-own}
 use Rattle.diagram.proofs.Agree.{agree-under}
 use Rattle.cutting.specs.Cut.{follow, cutEdge, cutOther, Cut}
-use Rattle.cutting.proofs.Bounds.{onSide, side-settings, cofactor-under}
+use Rattle.cutting.proofs.Bounds.{onSide, side-settings}
 use Rattle.cutting.proofs.Follow.{follow-next, edge-zero, edge-suc, cutSide, path-inside, path-low, half-low}
 use Rattle.cutting.proofs.CutOrder.{records-before, cut-height, cut-side, cut-ordered}
 
@@ -44,7 +45,7 @@ module _ (w : Words) (n B : ℕ) (D : Ordered w n B) (bound r : ℕ) (inside : r
   next-means h l k =
       step-in h l
       ∙ go lower (bit (suc h) x) (bit (suc h) bound) (k ∙ ap (λ (e : ℕ). under w e x && onSide lower (bound % 2 ^ h) (x % 2 ^ h)) (follow-next w n bound r h l))
-      ∙ sym (ap₂ _&&_ (cofactor-under w n B D P (suc h) x (path-inside w n B D bound r inside (suc h)) (path-low w n B D bound r inside (suc h) l) (omega arith))
+      ∙ sym (ap₂ _&&_ (cofactor-own w n B D P (suc h) (path-inside w n B D bound r inside (suc h)) (path-low w n B D bound r inside (suc h) l) (omega arith) x)
       (side-settings lower (suc h) bound x (omega arith) ∙ rw m))
     where
       m : suc h - 1 ≡ h

@@ -50,11 +50,11 @@ unfolding turn
 turn-node zero e = refl
 turn-node (suc f) e = omega arith
 
--- ... and another edge to another one
-pub turn-inj : (f a b : ℕ) → turn f a ≡ turn f b → a ≡ b
+-- ... is another one where it was another one
+pub turn-inj : (f t e : ℕ) → turn f t ≡ turn f e → t ≡ e
 unfolding turn
-turn-inj zero a b e = e
-turn-inj (suc f) a b e = omega arith
+turn-inj zero t e q = q
+turn-inj (suc f) t e q = omega arith
 
 -- ... stays below a limit of edges
 pub turn-lt : (f e m : ℕ) → e < 2 * m → turn f e < 2 * m

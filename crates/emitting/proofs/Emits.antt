@@ -8,8 +8,9 @@ use Rattle.words.specs.Words.{wordAt, putWord}
 use Rattle.words.proofs.Cases.{less, same, more, tri}
 use Rattle.diagram.specs.Format.{Words, highField, middleField, lowField}
 use Rattle.diagram.specs.Reading.{HasFields, turn}
+use Rattle.diagram.proofs.Edges.{turn-inj}
 use Rattle.numbering.specs.Renewal.{image, renew, Readable, IsKey}
-use Rattle.numbering.proofs.Images.{turn-inj, normal-side, image-small}
+use Rattle.numbering.proofs.Images.{normal-side, image-small}
 use Rattle.emitting.specs.Emitting.{recordNumber, HasRecord, Emitted, quiet, wrote}
 
 -- a plain edge to node v becomes a, an edge to node i

@@ -13,9 +13,10 @@ use Rattle.diagram.specs.Format.{Words, middleField, lowField, height, thenEdge
 use Rattle.diagram.specs.Ordered.{Ordered}
 use Rattle.diagram.specs.Reading.{turn}
 use Rattle.diagram.proofs.Paths.{side}
+use Rattle.diagram.proofs.Edges.{turn-inj}
 use Rattle.numbering.specs.Renewal.{image, renew, IsKey, same-record, new-record, Given, given-edge, given-number, Gave, skipped, stored}
 use Rattle.numbering.specs.Numbered.{Alike, Going}
-use Rattle.numbering.proofs.Images.{turn-inj, normal-side, renew-node}
+use Rattle.numbering.proofs.Images.{normal-side, renew-node}
 use Rattle.numbering.proofs.Renumber.{renew-positive, side-lt}
 use Rattle.numbering.proofs.Assign.{Adds}
 use Rattle.numbering.proofs.Going.{Assigned, equal-edges, repeated, another, updated-alike, step}

@@ -13,12 +13,6 @@ use Rattle.diagram.proofs.Edges.{turn-node, turn-lt, turn-under}
 use Rattle.diagram.proofs.Fields.{record-high, record-middle, record-low}
 use Rattle.numbering.specs.Renewal.{image, normal, renew}
 
--- edges turned alike are equal if they were
-pub turn-inj : (f t e : ℕ) → turn f t ≡ turn f e → t ≡ e
-unfolding turn
-turn-inj zero t e q = q
-turn-inj (suc f) t e q = omega arith
-
 -- an edge turned by its own flag is plain
 pub turn-self : (t : ℕ) → 2 * (t / 2) ≡ turn (t % 2) t
 unfolding turn

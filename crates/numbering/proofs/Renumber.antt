@@ -9,10 +9,10 @@ use Rattle.diagram.specs.Format.{Words, highField, middleField, lowField, heigh
 use Rattle.diagram.specs.Ordered.{Ordered, Reduced}
 use Rattle.diagram.specs.Reading.{turn}
 use Rattle.diagram.proofs.Paths.{side, side-node, side-height}
-use Rattle.diagram.proofs.Edges.{turn-node}
+use Rattle.diagram.proofs.Edges.{turn-inj, turn-node}
 use Rattle.numbering.specs.Renewal.{image, normal, renew}
 use Rattle.numbering.specs.Numbered.{Good, dropped, made, Source, Numbered, Closed}
-use Rattle.numbering.proofs.Images.{turn-inj, turn-self, normal-high, normal-side, image-node, image-small, image-side, renew-node}
+use Rattle.numbering.proofs.Images.{turn-self, normal-high, normal-side, image-node, image-small, image-side, renew-node}
 
 -- what is kept keeps the node of either edge
 pub closed-side : (R W : Words) (M : ℕ) → Closed R W M → (b : Bool) (k : ℕ) → k < M → 0 < W (suc k) → 0 < W (side R b (suc k) / 2)
