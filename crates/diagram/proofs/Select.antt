@@ -8,7 +8,7 @@ use lib.Dec.{eqb}
 use borrow.Author.Tests.{eqb-true, eqb-false}
 use Rattle.words.proofs.Cases.{Tri, less, same, more, tri}
 use Rattle.diagram.specs.Count.{indicator, countBelow, select, smallest}
-use Rattle.diagram.proofs.CountLaws.{count-cong, count-none, count-mono-lt}
+use Rattle.diagram.proofs.CountLaws.{count-cong, count-none, count-mono-lt, none-counted}
 
 -- what a selected number is
 pub record Selected (P : ℕ → Bool) (m r x : ℕ) : Type 0 where
@@ -115,12 +115,13 @@ smallest-none P m f = select-none P m 0 (omega (arith, count-none P m f))
 
 pub none-smallest : (P : ℕ → Bool) (m : ℕ) → smallest P m ≡ none → (x : ℕ) → x < m → P x ≡ false
 unfolding smallest
-none-smallest P m e x l = go (P x) refl
-  where
-    go : (b : Bool) → P x ≡ b → P x ≡ false
-    go false p = p
-    go true p =
-        let s = ranked P m 0 (omega (arith, count-mono-lt P p l)) in
-        let q : none ≡ some (s .0) = sym e ∙ select-of P m 0 (s .0) (s .1) in
-        let z : _≡_ {A = ℕ} 0 1 = cc in
-        absurd (omega arith)
+none-smallest P m e =
+    elim (tri 0 (countBelow P m)) [
+      | less l ↦ (
+          let s = ranked P m 0 l in
+          let q : none ≡ some (s .0) = sym e ∙ select-of P m 0 (s .0) (s .1) in
+          let z : _≡_ {A = ℕ} 0 1 = cc in
+          absurd (omega arith))
+      | same z ↦ none-counted P m (sym z)
+      | more l ↦ absurd (omega arith)
+    ]

@@ -9,7 +9,7 @@ use native.Mathlib.Omega.{arith}
 use borrow.Author.Tests.{eq-eqb}
 use Rattle.diagram.specs.Meaning.{bit}
 use Rattle.diagram.specs.Count.{countBelow, smallest}
-use Rattle.diagram.proofs.CountLaws.{count-none, count-mono-lt}
+use Rattle.diagram.proofs.CountLaws.{count-none, none-counted}
 use Rattle.diagram.proofs.Select.{Least, smallest-least, none-smallest}
 use Rattle.exclusion.specs.Finding.{agree, beginsAs, noneBegins, firstRuling, given, isPermitted, ruledOut, findingBy, finding, IsGiven}
 use Rattle.exclusion.proofs.Digits.{same-digit}
@@ -50,11 +50,7 @@ module _ (P : ℕ → Bool) (n x : ℕ) (l : x < 2 ^ n) where
 
   -- p is 0 exactly where nothing is permitted
   pub zero-exactly : (finding P n x ≡ ruledOut 0 none) ↔ (countBelow P (2 ^ n) ≡ 0)
-  zero-exactly = (λ e. empty-if (ruled-is 0 none e .0 .passes), λ z. finds-nothing P n x l (λ y i. nothing z y i (P y) refl))
-    where
-      nothing : countBelow P (2 ^ n) ≡ 0 → (y : ℕ) → y < 2 ^ n → (b : Bool) → P y ≡ b → P y ≡ false
-      nothing z y i true p = absurd (omega (arith, z, count-mono-lt P p i))
-      nothing z y i false p = p
+  zero-exactly = (λ e. empty-if (ruled-is 0 none e .0 .passes), λ z. finds-nothing P n x l (none-counted P (2 ^ n) z))
 
   -- otherwise an unpermitted setup has a p from 1 to n, and a setup is given
   pub ruled-between : P x ≡ false → 0 < countBelow P (2 ^ n) → (p : ℕ) × (y : ℕ) × (finding P n x ≡ ruledOut p (some y)) × (1 ≤ p) × (p ≤ n)
