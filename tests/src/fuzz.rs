@@ -13,7 +13,7 @@ use crate::paper::{self, Expected};
 use crate::raw::{self, Source};
 use crate::rng::Rng;
 use crate::sheets::{self, Length};
-use crate::tally::{is_listed_answer, Tally};
+use crate::tally::{is_listed_answer, Tally, OPERATION_COUNT};
 
 /// The longest sheet: part-write's for the longest table, and some bytes more.
 const LONGEST_SHEET: usize = 4 * raw::LONGEST + 8 * 512 + 4096;
@@ -204,7 +204,7 @@ impl Fuzz {
 fn any_call<'a>(rng: &mut Rng, limit: u64, list: List<'a>) -> Call<'a> {
     let number = number(rng, limit);
     let (k, j) = part(rng, limit);
-    match rng.below(10) {
+    match rng.below(OPERATION_COUNT) {
         0 => Call::Check,
         1 => Call::Count,
         2 => Call::Test { setup: number },

@@ -25,6 +25,8 @@ const OPERATIONS: [(&str, &[u64]); 10] = [
     ("part-write", &[15, 16, 11]),
 ];
 
+pub const OPERATION_COUNT: u64 = OPERATIONS.len() as u64;
+
 fn operation(call: Call) -> &'static str {
     match call {
         Call::Check => "check",

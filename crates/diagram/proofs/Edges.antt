@@ -50,7 +50,7 @@ unfolding turn
 turn-node zero e = refl
 turn-node (suc f) e = omega arith
 
--- ... is another one where it was another one
+-- ... and edges that are equal when turned alike were equal
 pub turn-inj : (f t e : ℕ) → turn f t ≡ turn f e → t ≡ e
 unfolding turn
 turn-inj zero t e q = q
