@@ -9,10 +9,10 @@ use Rattle.exclusion.specs.Finding.{Finding, isPermitted, ruledOut}
 abbrev pub single : ℕ → List ℕ
 single v = v ∷ 0 ∷ 0 ∷ []
 
--- what was found of a setup: 0 if it is permitted, 1 and p where no setup is given, which is 0, or 2, p and the setup given
+-- what was found of a setup: 0 if it is permitted, 1 if no setup is given, or 2, p and the setup given
 unfoldable pub foundWords : Finding → List ℕ
 foundWords isPermitted = single 0
-foundWords (ruledOut p none) = 1 ∷ p ∷ 0 ∷ []
+foundWords (ruledOut p none) = single 1
 foundWords (ruledOut p (some y)) = 2 ∷ p ∷ y ∷ []
 
 -- what is returned: 0, or the refusal's number

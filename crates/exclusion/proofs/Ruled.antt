@@ -52,27 +52,44 @@ module _ (P : ℕ → Bool) (n x : ℕ) (l : x < 2 ^ n) where
   pub zero-exactly : (finding P n x ≡ ruledOut 0 none) ↔ (countBelow P (2 ^ n) ≡ 0)
   zero-exactly = (λ e. empty-if (ruled-is 0 none e .0 .passes), λ z. finds-nothing P n x l (none-counted P (2 ^ n) z))
 
+  -- a p above 0 has a setup: one that begins with the first p settings
+  some-given : (p : ℕ) → Least (noneBegins P n x) (n + 1) (suc p) → (y : ℕ) × (given P n x (suc p) ≡ some y)
+  unfolding given
+  some-given p L = go (smallest (beginsAs P n x p) (2 ^ n)) refl
+    where
+      before : (b : Bool) → noneBegins P n x p ≡ b → noneBegins P n x p ≡ false
+      before true e = absurd (omega (arith, L .least p (omega (arith, L .below)) e))
+      before false e = e
+
+      go : (o : Option ℕ) → smallest (beginsAs P n x p) (2 ^ n) ≡ o → (y : ℕ) × (o ≡ some y)
+      go none q =
+          let s = begins-some P n x p (before (noneBegins P n x p) refl) in
+          absurd (true≢false (sym (is-begins P n x p (s .0) (s .2) (s .3)) ∙ none-smallest (beginsAs P n x p) (2 ^ n) q (s .0) (s .1)))
+      go (some y) q = (y, refl)
+
+  -- so none is given only for p = 0, where nothing is permitted
+  pub none-given : (p : ℕ) → finding P n x ≡ ruledOut p none → (p ≡ 0) × (countBelow P (2 ^ n) ≡ 0)
+  none-given p e = let r = ruled-is p none e in go p (r .0) (r .1)
+    where
+      go : (p : ℕ) → Least (noneBegins P n x) (n + 1) p → none ≡ given P n x p → (p ≡ 0) × (countBelow P (2 ^ n) ≡ 0)
+      go zero L q = (refl, empty-if (L .passes))
+      go (suc p) L q =
+          let s = some-given p L in
+          let i : none ≡ some (s .0) = q ∙ s .1 in
+          let z : _≡_ {A = ℕ} 0 1 = cc in
+          absurd (omega arith)
+
   -- otherwise an unpermitted setup has a p from 1 to n, and a setup is given
   pub ruled-between : P x ≡ false → 0 < countBelow P (2 ^ n) → (p : ℕ) × (y : ℕ) × (finding P n x ≡ ruledOut p (some y)) × (1 ≤ p) × (p ≤ n)
-  unfolding finding findingBy firstRuling given
+  unfolding finding findingBy firstRuling
   ruled-between out inhabited = go (firstRuling P n x) refl
     where
-      setup : (p : ℕ) → noneBegins P n x p ≡ false → (o : Option ℕ) → smallest (beginsAs P n x p) (2 ^ n) ≡ o → (y : ℕ) × (o ≡ some y)
-      setup p e none q =
-          let s = begins-some P n x p e in
-          absurd (true≢false (sym (is-begins P n x p (s .0) (s .2) (s .3)) ∙ none-smallest (beginsAs P n x p) (2 ^ n) q (s .0) (s .1)))
-      setup p e (some y) q = (y, refl)
-
-      before : (p : ℕ) → Least (noneBegins P n x) (n + 1) (suc p) → (b : Bool) → noneBegins P n x p ≡ b → noneBegins P n x p ≡ false
-      before p L true e = absurd (omega (arith, L .least p (omega (arith, L .below)) e))
-      before p L false e = e
-
       go : (r : Option ℕ) → firstRuling P n x ≡ r → (p : ℕ) × (y : ℕ) × (findingBy (given P n x) r ≡ ruledOut p (some y)) × (1 ≤ p) × (p ≤ n)
       go none q = absurd (true≢false (sym (permitted-if (ap (findingBy (given P n x)) q)) ∙ out))
       go (some zero) q = absurd (omega (arith, inhabited, empty-if (smallest-least (noneBegins P n x) (n + 1) 0 q .passes)))
       go (some (suc p)) q =
           let L = smallest-least (noneBegins P n x) (n + 1) (suc p) q in
-          let s = setup p (before p L (noneBegins P n x p) refl) (smallest (beginsAs P n x p) (2 ^ n)) refl in
+          let s = some-given p L in
           (suc p, s .0, ap (ruledOut (suc p)) (s .1), omega arith, omega (arith, L .below))
 
   -- what the setup given is

@@ -85,6 +85,11 @@ module _ (t s : List ℕ) (x : ℕ) where
       let exactly = ruled.zero-exactly P n x (test-is b e .0) in
       (λ r. exactly .0 (found (ruledOut 0 none) r .2), λ z. finds b e ∙ ap value (exactly .1 z))
 
+  -- no setup is given only there
+  pub none-where-empty : (p : ℕ) → rulingOut t x s ≡ value (ruledOut p none) → (p ≡ 0) × (total w ≡ 0)
+  unfolding total
+  none-where-empty p e = let f = found (ruledOut p none) e in ruled.none-given P n x (f .1) p (f .2)
+
   -- an unpermitted setup of a table that permits some has a p from 1 to n, and is given a setup
   pub ruled-where-not : testing t x s ≡ value false → 0 < total w → (p : ℕ) × (y : ℕ) × (rulingOut t x s ≡ value (ruledOut p (some y))) × (1 ≤ p) × (p ≤ n)
   unfolding total
