@@ -1,5 +1,5 @@
 /* bench INSTRUCTIONS SVG: compares ours with plain C, times both and BuDDy, writes the plot, prints the report.
- * INSTRUCTIONS has a line "workload operation side count" for each dump of callgrind. */
+ * INSTRUCTIONS has a line "workload operation side count" for each dump of callgrind; see instructions.c. */
 #include <stdio.h>
 #include <stdlib.h>
 
@@ -14,6 +14,8 @@
 #define CELL_SECONDS 0.04  /* on the others */
 #define POINT_SECONDS 0.06 /* on a point of the plot */
 #define BUDDY_SECONDS 0.4
+#define TWO_SECONDS 0.1    /* a pass, for each condition on a row of two tables */
+#define BUDDY_TWO_SECONDS 0.3
 
 static FILE *opened(const char *path, const char *mode)
 {
@@ -25,14 +27,16 @@ static FILE *opened(const char *path, const char *mode)
 
 static void read_instructions(const char *path, struct results *r)
 {
-    unsigned w, op, side, lines = 0;
+    unsigned w, op, side, lines = 0, all = 3 * OPERATIONS * SIDES + ROWS * SIDES;
     double count;
     FILE *f = opened(path, "r");
-    for (; fscanf(f, "%u %u %u %lf", &w, &op, &side, &count) == 4; lines++)
+    for (; fscanf(f, "%u %u %u %lf", &w, &op, &side, &count) == 4; lines++) {
         if (w < WORKLOADS && op < OPERATIONS && side < SIDES) r->instructions[w][op][side] = count / COUNTED_CALLS;
+        if (w >= WORKLOADS && w < WORKLOADS + ROWS && side < SIDES) r->row_instructions[w - WORKLOADS][side] = count;
+    }
     fclose(f);
-    if (lines == 3 * OPERATIONS * SIDES) return;
-    fprintf(stderr, "bench: %u instruction counts instead of %u\n", lines, 3 * OPERATIONS * SIDES);
+    if (lines == all) return;
+    fprintf(stderr, "bench: %u instruction counts instead of %u\n", lines, all);
     exit(1);
 }
 
@@ -44,6 +48,15 @@ static void time_workloads(const struct results *r, double (*micros)[OPERATIONS]
             for (int c = 0; c < CONDITIONS; c++)
                 time_both(&r->table[w], op, c, w == WIDE ? WIDE_SECONDS : CELL_SECONDS, micros[w][op][c]);
         time_buddy(&r->table[w], BUDDY_SECONDS, buddy[w]);
+    }
+}
+
+/* One pass over the rows of two tables. */
+static void time_rows(const struct results *r, double (*micros)[CONDITIONS][SIDES], double (*buddy)[BUDDY])
+{
+    for (int i = 0; i < ROWS; i++) {
+        for (int c = 0; c < CONDITIONS; c++) time_two(&r->row[i], c, TWO_SECONDS, micros[i][c]);
+        time_buddy_two(&r->row[i], BUDDY_TWO_SECONDS, buddy[i]);
     }
 }
 
@@ -74,26 +87,35 @@ static void quietest(const double *passes, unsigned pairs, double *out)
     }
 }
 
-/* Of the passes, the one that is best for BuDDy: the least whole job / ours. */
-static void best_for_buddy(double (*passes)[WORKLOADS][BUDDY], int w, double *out)
+/* For each row of figures, those of the pass that is best for BuDDy: the least whole job / ours. The PASSES times `rows`
+ * rows stand one after another. */
+static void best_for_buddy(double (*passes)[BUDDY], unsigned rows, double (*out)[BUDDY])
 {
-    int best = 0;
-    for (int p = 1; p < PASSES; p++)
-        if (passes[p][w][WHOLE] / passes[p][w][BESIDE] < passes[best][w][WHOLE] / passes[best][w][BESIDE]) best = p;
-    for (int i = 0; i < BUDDY; i++) out[i] = passes[best][w][i];
+    for (unsigned i = 0; i < rows; i++) {
+        const double *best = passes[i];
+        for (unsigned p = 1; p < PASSES; p++) {
+            const double *one = passes[p * rows + i];
+            if (one[WHOLE] / one[BESIDE] < best[WHOLE] / best[BESIDE]) best = one;
+        }
+        for (int k = 0; k < BUDDY; k++) out[i][k] = best[k];
+    }
 }
 
 static void time_all(struct results *r, struct point *points)
 {
     static double micros[PASSES][WORKLOADS][OPERATIONS][CONDITIONS][SIDES];
     double buddy[PASSES][WORKLOADS][BUDDY], lines[PASSES][POINTS * LINES], line[POINTS * LINES];
+    double row_micros[PASSES][ROWS][CONDITIONS][SIDES], row_buddy[PASSES][ROWS][BUDDY];
     for (int p = 0; p < PASSES; p++) {
         time_workloads(r, micros[p], buddy[p]);
+        time_rows(r, row_micros[p], row_buddy[p]);
         time_points(points);
         for (int i = 0; i < POINTS * LINES; i++) lines[p][i] = points[i / LINES].micros[i % LINES];
     }
     quietest(&micros[0][0][0][0][0], WORKLOADS * OPERATIONS * CONDITIONS, &r->micros[0][0][0][0]);
-    for (int w = 0; w < WORKLOADS; w++) best_for_buddy(buddy, w, r->buddy[w]);
+    quietest(&row_micros[0][0][0][0], ROWS * CONDITIONS, &r->row_micros[0][0][0]);
+    best_for_buddy(buddy[0], WORKLOADS, r->buddy);
+    best_for_buddy(row_buddy[0], ROWS, r->row_buddy);
     quietest(&lines[0][0], POINTS * LINES / SIDES, line);
     for (int i = 0; i < POINTS * LINES; i++) points[i / LINES].micros[i % LINES] = line[i];
 }
@@ -107,6 +129,11 @@ int main(int argc, char **argv)
     for (int w = 0; w < WORKLOADS; w++) {
         r.table[w] = workload(w);
         r.calls += compare(&r.table[w]);
+    }
+    for (int i = 0; i < ALL_ROWS; i++) {
+        struct two w = row(i);
+        r.calls += compare_two(&w);
+        if (i < ROWS) r.row[i] = w;
     }
     time_all(&r, points);
     FILE *svg = opened(argv[2], "w");

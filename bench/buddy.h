@@ -2,13 +2,15 @@
 #ifndef BUDDY_H
 #define BUDDY_H
 
-#include "tables.h"
+#include "rows.h"
 
-/* WHOLE: BuDDy loads the table and counts; SATCOUNT: it counts alone; BESIDE: our count, cleared. */
-enum buddy { WHOLE, SATCOUNT, BESIDE, BUDDY };
+/* WHOLE: BuDDy loads the table and counts, or both tables and makes them one; ALONE: without the loading;
+ * BESIDE: our call, cleared. */
+enum buddy { WHOLE, ALONE, BESIDE, BUDDY };
 
 /* Medians of the three in microseconds, by turns, within about this many seconds. Ends the program with
  * a message if BuDDy's count is not ours. */
 void time_buddy(const struct table *t, double seconds, double *micros);
+void time_buddy_two(const struct two *w, double seconds, double *micros);
 
 #endif

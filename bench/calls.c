@@ -13,14 +13,20 @@ uint64_t plain_rank(T, uint64_t setup, S), plain_unrank(T, uint64_t rank, S);
 uint64_t plain_span_size(T, uint64_t k, uint64_t j, S), plain_part_write(T, uint64_t k, uint64_t j, S, O);
 uint64_t plain_ruled_out(T, uint64_t setup, S, uint64_t answer[3]);
 uint64_t plain_unrank_list(T, const uint8_t *ranks, size_t ranks_len, S, O, uint64_t answer[3]);
+#define TWO T, S, const uint8_t *table2, size_t table2_len, uint8_t *sheet2, size_t sheet2_len
+#define P uint8_t *pairs, size_t pairs_len
+uint64_t plain_join(TWO, P, O, uint64_t answer[3]), plain_share(TWO, P, O, uint64_t answer[3]);
+uint64_t plain_without(TWO, P, O, uint64_t answer[3]);
+#undef TWO
+#undef P
 #undef T
 #undef S
 #undef O
 
 const char *operation_name(enum operation op)
 {
-    static const char *const names[] = {"check", "count",      "test",        "rank",          "unrank",
-                                        "span",  "part-write", "list spread", "list in a row", "ruled out"};
+    static const char *const names[] = {"check",       "count",         "test",      "rank",   "unrank", "span",   "part-write",
+                                        "list spread", "list in a row", "ruled out", "joined", "shared", "without"};
     return names[op];
 }
 
@@ -78,4 +84,14 @@ static uint64_t plain(enum operation op, const struct lent *m, struct numbers x)
 uint64_t call(enum side side, enum operation op, const struct lent *m, struct numbers x)
 {
     return side == OURS ? ours(op, m, x) : plain(op, m, x);
+}
+
+uint64_t call_two(enum side side, enum operation op, const struct lent *m)
+{
+    typedef uint64_t of_two(const uint8_t *, size_t, uint8_t *, size_t, const uint8_t *, size_t, uint8_t *, size_t, uint8_t *,
+                            size_t, uint8_t *, size_t, uint64_t *);
+    static of_two *const functions[SIDES][3] = {{setupbook_join, setupbook_share, setupbook_without},
+                                                {plain_join, plain_share, plain_without}};
+    return functions[side][op - JOINED](m->table, m->table_len, m->sheet, m->sheet_len, m->table2, m->table2_len, m->sheet2,
+                                        m->sheet2_len, m->pairs, m->pairs_len, m->out, m->out_len, m->answer);
 }

@@ -6,14 +6,19 @@
 #include <stddef.h>
 #include <stdint.h>
 
-enum operation { CHECK, COUNT, TEST, RANK, UNRANK, SPAN, PART_WRITE, LIST_SPREAD, LIST_ROW, RULED_OUT, OPERATIONS };
+/* OPERATIONS: those on one table. Then those on two. */
+enum operation {
+    CHECK, COUNT, TEST, RANK, UNRANK, SPAN, PART_WRITE, LIST_SPREAD, LIST_ROW, RULED_OUT, OPERATIONS,
+    JOINED = OPERATIONS, SHARED, WITHOUT
+};
 enum side { OURS, PLAIN, SIDES };
 
 #define PARTS 8 /* the division that is timed: part 3 of 8 */
 #define PART 3
 #define ITEMS 8192 /* numbers of the lists that are timed */
 
-/* The memories lent to a call. A list's setups go to the out memory; its answer and ruled-out's have three words. */
+/* The memories lent to a call. A list's setups go to the out memory; its answer, ruled-out's and that of an operation on
+ * two tables have three words. Only the latter has a second table, its sheet and a pair sheet. */
 struct lent {
     const uint8_t *table;
     size_t table_len;
@@ -24,6 +29,12 @@ struct lent {
     uint8_t *out;
     size_t out_len;
     uint64_t *answer;
+    const uint8_t *table2;
+    size_t table2_len;
+    uint8_t *sheet2;
+    size_t sheet2_len;
+    uint8_t *pairs;
+    size_t pairs_len;
 };
 
 /* The numbers of a call: a setup or a rank in `a`; the number of parts and the part for span and
@@ -39,6 +50,8 @@ int is_of_part(enum operation op); /* span or part-write */
 /* The sheet for a table of N records: N + 1 places, and 4 N + 512 for part-write. */
 size_t sheet_len_of(enum operation op, uint32_t count);
 
+/* An operation on one table; one on two. */
 uint64_t call(enum side side, enum operation op, const struct lent *m, struct numbers x);
+uint64_t call_two(enum side side, enum operation op, const struct lent *m);
 
 #endif

@@ -5,6 +5,7 @@
 #include <stdlib.h>
 #include <string.h>
 
+#include "../include/setupbook.h"
 #include "memory.h"
 
 #define CALLS 24
@@ -171,6 +172,136 @@ unsigned compare(const struct table *t)
             compare_call(t, &p, op, x);
         }
     }
+    give_back(&p.of[OURS]);
+    give_back(&p.of[PLAIN]);
+    return p.calls;
+}
+
+/* --- two tables ------------------------------------------------------------------------------ */
+
+static void stop_two(const struct two *w, int i, const char *what)
+{
+    fprintf(stderr, "bench: %s, %s, call %d: %s\n", w->name, operation_name(w->op), i, what);
+    exit(1);
+}
+
+/* Answers the refusal, or 0. */
+static uint64_t compare_call_two(const struct two *w, struct pair *p, int i)
+{
+    struct lent *a = &p->of[OURS], *b = &p->of[PLAIN];
+    size_t sheet_room = sheet_len_of(w->op, w->first.count) + GUARD, sheet2_room = sheet_len_of(w->op, w->second.count) + GUARD;
+    size_t all_pairs = pairs_room(w) + GUARD, all_out = SETUPBOOK_LONGEST + GUARD;
+    fill(&p->seed, a->sheet, b->sheet, sheet_room);
+    fill(&p->seed, a->sheet2, b->sheet2, sheet2_room);
+    fill(&p->seed, a->pairs, b->pairs, all_pairs);
+    fill(&p->seed, a->out, b->out, all_out);
+    fill(&p->seed, (uint8_t *)a->answer, (uint8_t *)b->answer, ANSWER + GUARD);
+    uint64_t ours = call_two(OURS, w->op, a), plain = call_two(PLAIN, w->op, b);
+    if (ours != plain) stop_two(w, i, "the answers differ");
+    if (memcmp(a->answer, b->answer, ANSWER + GUARD)) stop_two(w, i, "the answers' words differ");
+    if (memcmp(a->sheet, b->sheet, sheet_room)) stop_two(w, i, "the first sheets or bytes behind them differ");
+    if (memcmp(a->sheet2, b->sheet2, sheet2_room)) stop_two(w, i, "the second sheets or bytes behind them differ");
+    if (memcmp(a->pairs, b->pairs, all_pairs)) stop_two(w, i, "the pair sheets or bytes behind them differ");
+    if (memcmp(a->out, b->out, all_out)) stop_two(w, i, "the out memories differ");
+    if (memcmp(a->table, b->table, a->table_len)) stop_two(w, i, "a first table was changed");
+    if (memcmp(a->table2, b->table2, a->table2_len)) stop_two(w, i, "a second table was changed");
+    p->calls++;
+    return plain;
+}
+
+/* Both tables as they were, and memory for them: sheets just long enough, or up to 23 bytes longer. */
+static void restore_two(const struct two *w, struct pair *p)
+{
+    uint64_t r = next_random(&p->seed), more = r % 2 ? r / 2 % 24 : 0, more2 = r / 64 % 2 ? r / 128 % 24 : 0;
+    for (int side = 0; side < SIDES; side++) {
+        struct lent *m = &p->of[side];
+        memcpy((uint8_t *)m->table, w->first.bytes, w->first.len);
+        memcpy((uint8_t *)m->table2, w->second.bytes, w->second.len);
+        lend_for_two(m, w);
+        m->sheet_len += more;
+        m->sheet2_len += more2;
+    }
+}
+
+/* The pair sheet long enough, just so, with an incomplete four and spare bytes, and too short; by turns with the out
+ * memory, of whose bytes `result` are needed. The first six calls hold the pairs, the others do not. */
+static void compare_lengths(const struct two *w, struct pair *p, size_t result)
+{
+    size_t all = 32 * w->pairs, longest = SETUPBOOK_LONGEST;
+    struct { size_t pairs, out; } lengths[] = {
+        {2 * all, result}, {all, longest}, {all + 31, result}, /* served */
+        {2 * all, result - 1}, {all, result - 8}, {all, 0}, /* 11 */
+        {all - 1, longest}, {all - 32, result}, {all / 2, 0}, {32, longest}, {31, longest}, {7, 0}, {0, longest}, /* 20 */
+    };
+    for (int i = 0; i < (int)(sizeof lengths / sizeof *lengths); i++) {
+        restore_two(w, p);
+        for (int side = 0; side < SIDES; side++) {
+            p->of[side].pairs_len = lengths[i].pairs;
+            p->of[side].out_len = lengths[i].out;
+        }
+        if ((compare_call_two(w, p, i) == 20) != (i >= 6)) stop_two(w, i, "the pairs are not as many as was said");
+    }
+}
+
+/* The first table twice, the second twice, either with sample A, and that twice: in the same memory each time. */
+static void compare_others(const struct two *w, struct pair *p)
+{
+    struct table a = workload(SAMPLE_A);
+    for (int i = 0; i < 5; i++) {
+        restore_two(w, p);
+        struct lent kept[SIDES] = {p->of[OURS], p->of[PLAIN]};
+        for (int side = 0; side < SIDES; side++) {
+            struct lent *m = &p->of[side], *k = &kept[side];
+            const uint8_t *table[] = {k->table, k->table2, a.bytes};
+            size_t len[] = {k->table_len, k->table2_len, a.len};
+            int first[] = {0, 1, 0, 2, 2}, second[] = {0, 1, 2, 1, 2};
+            m->table = table[first[i]];
+            m->table_len = len[first[i]];
+            m->table2 = table[second[i]];
+            m->table2_len = len[second[i]];
+        }
+        compare_call_two(w, p, i);
+        for (int side = 0; side < SIDES; side++) p->of[side] = kept[side];
+    }
+    free(a.bytes);
+}
+
+/* Turns the tables and their sheets over, so that the second one is damaged as the first. */
+static void exchange(struct pair *p)
+{
+    for (int side = 0; side < SIDES; side++) {
+        struct lent *m = &p->of[side], k = *m;
+        m->table = k.table2;
+        m->table_len = k.table2_len;
+        m->sheet = k.sheet2;
+        m->sheet_len = k.sheet2_len;
+        m->table2 = k.table;
+        m->table2_len = k.table_len;
+        m->sheet2 = k.sheet;
+        m->sheet2_len = k.sheet_len;
+    }
+}
+
+/* Damage in the first table, in the second, and in both. */
+static void compare_damaged(const struct two *w, struct pair *p)
+{
+    for (int i = 0; i < 3 * DAMAGED; i++) {
+        restore_two(w, p);
+        if (i % 3 != 1) damage(&w->first, p, w->op, i / 3);
+        exchange(p);
+        if (i % 3 != 0) damage(&w->second, p, w->op, i / 3);
+        exchange(p);
+        compare_call_two(w, p, i);
+    }
+}
+
+unsigned compare_two(const struct two *w)
+{
+    struct pair p = {{lend_two(w), lend_two(w)}, w->pairs + w->op, 0};
+    uint64_t refusal = compare_call_two(w, &p, 0);
+    compare_lengths(w, &p, refusal ? SETUPBOOK_LONGEST : p.of[PLAIN].answer[0]);
+    compare_others(w, &p);
+    compare_damaged(w, &p);
     give_back(&p.of[OURS]);
     give_back(&p.of[PLAIN]);
     return p.calls;

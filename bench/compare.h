@@ -2,9 +2,10 @@
 #ifndef COMPARE_H
 #define COMPARE_H
 
-#include "tables.h"
+#include "rows.h"
 
 /* Makes every call on both sides; answers how many, or ends the program with a message if an answer or a byte differs. */
 unsigned compare(const struct table *t);
+unsigned compare_two(const struct two *w);
 
 #endif

@@ -1,5 +1,6 @@
 /* The program that runs under callgrind: each operation of each side, COUNTED_CALLS times, with a dump
- * of its own that is named "workload operation side". */
+ * of its own that is named "workload operation side". Row r of two tables stands as workload
+ * WORKLOADS + r and is called once: its calls are all alike. */
 #include "instructions.h"
 
 #include <stdio.h>
@@ -27,11 +28,26 @@ static void count_workload(enum workload w)
     give_back(&m);
 }
 
+static void count_row(enum row r)
+{
+    struct two w = row(r);
+    struct lent m = lend_two(&w);
+    for (int side = 0; side < SIDES; side++) {
+        char name[64];
+        snprintf(name, sizeof name, "%d %d %d", WORKLOADS + r, w.op, side);
+        CALLGRIND_ZERO_STATS;
+        call_two(side, w.op, &m);
+        CALLGRIND_DUMP_STATS_AT(name);
+    }
+    give_back(&m);
+}
+
 int main(void)
 {
     CALLGRIND_START_INSTRUMENTATION;
     count_workload(PATH_63);
     count_workload(MIDDLE);
     count_workload(WIDE);
+    for (int r = 0; r < ROWS; r++) count_row(r);
     return 0;
 }

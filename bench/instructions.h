@@ -2,6 +2,6 @@
 #ifndef INSTRUCTIONS_H
 #define INSTRUCTIONS_H
 
-#define COUNTED_CALLS 8 /* calls of each operation that one count is the sum of */
+#define COUNTED_CALLS 8 /* calls of each operation on one table that one count is the sum of */
 
 #endif

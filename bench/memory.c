@@ -4,6 +4,8 @@
 #include <stdlib.h>
 #include <string.h>
 
+#include "../include/setupbook.h"
+
 static uint8_t *pages(size_t len)
 {
     size_t whole = (len + GUARD + 4095) / 4096 * 4096;
@@ -22,12 +24,15 @@ size_t out_room(const struct table *t)
     return part_room(t) > 8 * ITEMS ? part_room(t) : 8 * ITEMS;
 }
 
+static const uint8_t *copy_of(const struct table *t)
+{
+    return memcpy(pages(t->len), t->bytes, t->len);
+}
+
 struct lent lend(const struct table *t)
 {
     struct lent m = {0};
-    uint8_t *table = pages(t->len);
-    memcpy(table, t->bytes, t->len);
-    m.table = table;
+    m.table = copy_of(t);
     m.table_len = t->len;
     m.ranks = pages(8 * ITEMS);
     m.sheet = pages(sheet_len_of(PART_WRITE, t->count));
@@ -55,9 +60,41 @@ void lend_for(struct lent *m, enum operation op, const struct table *t)
     if (is_list(op)) write_list(op, t, m->ranks);
 }
 
+size_t pairs_room(const struct two *w)
+{
+    return 2 * 32 * w->pairs;
+}
+
+struct lent lend_two(const struct two *w)
+{
+    struct lent m = {0};
+    m.table = copy_of(&w->first);
+    m.table2 = copy_of(&w->second);
+    m.sheet = pages(sheet_len_of(w->op, w->first.count));
+    m.sheet2 = pages(sheet_len_of(w->op, w->second.count));
+    m.pairs = pages(pairs_room(w));
+    m.out = pages(SETUPBOOK_LONGEST);
+    m.answer = (uint64_t *)pages(ANSWER);
+    lend_for_two(&m, w);
+    return m;
+}
+
+void lend_for_two(struct lent *m, const struct two *w)
+{
+    m->table_len = w->first.len;
+    m->table2_len = w->second.len;
+    m->sheet_len = sheet_len_of(w->op, w->first.count);
+    m->sheet2_len = sheet_len_of(w->op, w->second.count);
+    m->pairs_len = pairs_room(w);
+    m->out_len = SETUPBOOK_LONGEST;
+}
+
 void give_back(struct lent *m)
 {
     free((void *)m->table);
+    free((void *)m->table2);
+    free(m->sheet2);
+    free(m->pairs);
     free(m->ranks);
     free(m->sheet);
     free(m->out);

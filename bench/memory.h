@@ -2,8 +2,7 @@
 #ifndef MEMORY_H
 #define MEMORY_H
 
-#include "calls.h"
-#include "tables.h"
+#include "rows.h"
 
 #define GUARD 64 /* bytes behind each memory; no call may touch those that it is not lent */
 #define ANSWER 24 /* bytes of an answer in three words */
@@ -12,6 +11,11 @@
 struct lent lend(const struct table *t);
 void lend_for(struct lent *m, enum operation op, const struct table *t);
 void give_back(struct lent *m);
+
+/* The same for two tables: sheets just long enough, a pair sheet for twice the pairs, and out memory for any table. */
+struct lent lend_two(const struct two *w);
+void lend_for_two(struct lent *m, const struct two *w);
+size_t pairs_room(const struct two *w);
 
 /* The bytes of out memory: for every part of the table, and for ITEMS setups. */
 size_t out_room(const struct table *t);

@@ -9,8 +9,10 @@
 #define BAR 1.3
 #define PART_WRITE_BAR 1.6
 #define LIST_BAR 1.5
+#define TWO_BAR 2.5
 
 #define BUDDY_BAR 20.0
+#define BUDDY_TWO_BAR 1.0
 #define SINGLE_BAR 300.0    /* single calls / the list */
 #define ROW_BAR (1.0 / 3.0) /* numbers in a row / spread */
 
@@ -73,8 +75,8 @@ static void print_buddy(const struct results *r)
            "|-------------|---------:|---------:|-------:|-------------:|----------------:|\n");
     for (int w = 0; w < WORKLOADS; w++) {
         const double *b = r->buddy[w], ours = b[BESIDE];
-        printf("| %-11s | %8.1f | %8.1f | %6.1f | %12.1f | %15.1f |\n", r->table[w].name, b[WHOLE], b[SATCOUNT], ours,
-               b[WHOLE] / ours, b[SATCOUNT] / ours);
+        printf("| %-11s | %8.1f | %8.1f | %6.1f | %12.1f | %15.1f |\n", r->table[w].name, b[WHOLE], b[ALONE], ours,
+               b[WHOLE] / ours, b[ALONE] / ours);
     }
     printf("\n");
 }
@@ -106,16 +108,81 @@ static double bar_of(enum operation op)
     return op == PART_WRITE ? PART_WRITE_BAR : is_list(op) ? LIST_BAR : BAR;
 }
 
+static void print_bars_head(const char *tables, const char *more)
+{
+    printf("## The bars, on %s\n\n%s"
+           "| what                                                  | bar      | measured | verdict |\n"
+           "|-------------------------------------------------------|----------|---------:|---------|\n", tables, more);
+}
+
 static void print_bars(const struct results *r)
 {
-    printf("## The bars, on the wide table\n\n"
-           "| what                                                  | bar      | measured | verdict |\n"
-           "|-------------------------------------------------------|----------|---------:|---------|\n");
+    print_bars_head("the wide table", "");
     for (int op = 0; op < OPERATIONS; op++)
         print_bar(operation_name(op), "ours / plain C, instructions", op == LIST_ROW ? "" : "≤", bar_of(op),
                   r->instructions[WIDE][op][OURS] / r->instructions[WIDE][op][PLAIN]);
     print_list_bars(r);
     print_bar("count", "BuDDy's whole job / ours", "≥", BUDDY_BAR, r->buddy[WIDE][WHOLE] / r->buddy[WIDE][BESIDE]);
+    printf("\n");
+}
+
+static void print_two_medians(const struct results *r)
+{
+    printf("## Two tables made into one\n\n"
+           "The pair sheet holds twice the pairs of edges that the tables have. Medians in µs a call, as above.\n\n"
+           "| tables                   | pairs | operation | ours warm | plain warm | ratio "
+           "| ours cleared | plain cleared | ratio |\n"
+           "|--------------------------|------:|-----------|----------:|-----------:|------:"
+           "|-------------:|--------------:|------:|\n");
+    for (int i = 0; i < ROWS; i++) {
+        const double *a = r->row_micros[i][WARM], *c = r->row_micros[i][CLEARED];
+        printf("| %-24s | %5zu | %-9s | %9.2f | %10.2f | %5.2f | %12.2f | %13.2f | %5.2f |\n", r->row[i].name, r->row[i].pairs,
+               operation_name(r->row[i].op), a[OURS], a[PLAIN], a[OURS] / a[PLAIN], c[OURS], c[PLAIN], c[OURS] / c[PLAIN]);
+    }
+    printf("\n");
+}
+
+static void print_two_instructions(const struct results *r)
+{
+    printf("Instructions a call, and a pair:\n\n"
+           "| tables                   | operation |     ours |  plain C | ours a pair | plain C a pair | ratio |\n"
+           "|--------------------------|-----------|---------:|---------:|------------:|---------------:|------:|\n");
+    for (int i = 0; i < ROWS; i++) {
+        const double *a = r->row_instructions[i], pairs = (double)r->row[i].pairs;
+        printf("| %-24s | %-9s | %8.0f | %8.0f | %11.1f | %14.1f | %5.2f |\n", r->row[i].name, operation_name(r->row[i].op),
+               a[OURS], a[PLAIN], a[OURS] / pairs, a[PLAIN] / pairs, a[OURS] / a[PLAIN]);
+    }
+    printf("\n");
+}
+
+static void print_two_buddy(const struct results *r)
+{
+    printf("Beside BuDDy, in µs, as for count. Its whole job: loading both diagrams from the tables' bytes, and bdd_apply.\n\n"
+           "| tables                   | operation |    whole |    apply |     ours | whole / ours | apply / ours |\n"
+           "|--------------------------|-----------|---------:|---------:|---------:|-------------:|-------------:|\n");
+    for (int i = 0; i < ROWS; i++) {
+        const double *b = r->row_buddy[i], ours = b[BESIDE];
+        printf("| %-24s | %-9s | %8.1f | %8.1f | %8.1f | %12.2f | %12.2f |\n", r->row[i].name, operation_name(r->row[i].op),
+               b[WHOLE], b[ALONE], ours, b[WHOLE] / ours, b[ALONE] / ours);
+    }
+    printf("\n");
+}
+
+/* A bar of two tables, which are named with it. */
+static void print_two_bar(const struct two *w, const char *what, const char *bound, double bar, double measured)
+{
+    char named[64];
+    snprintf(named, sizeof named, "%s: %s", w->name, what);
+    print_bar(operation_name(w->op), named, bound, bar, measured);
+}
+
+static void print_two_bars(const struct results *r)
+{
+    print_bars_head("two tables", "Instructions: ours / plain C. BuDDy: its whole job / ours.\n\n");
+    for (int i = 0; i < ROWS; i++)
+        print_two_bar(&r->row[i], "instructions", "≤", TWO_BAR, r->row_instructions[i][OURS] / r->row_instructions[i][PLAIN]);
+    for (int i = 0; i < ROWS; i++)
+        print_two_bar(&r->row[i], "BuDDy", "≥", BUDDY_TWO_BAR, r->row_buddy[i][WHOLE] / r->row_buddy[i][BESIDE]);
 }
 
 void print_report(const struct results *r)
@@ -126,5 +193,9 @@ void print_report(const struct results *r)
     print_medians(r);
     print_instructions(r);
     print_buddy(r);
+    print_two_medians(r);
+    print_two_instructions(r);
+    print_two_buddy(r);
     print_bars(r);
+    print_two_bars(r);
 }

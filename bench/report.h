@@ -11,6 +11,10 @@ struct results {
     double micros[WORKLOADS][OPERATIONS][CONDITIONS][SIDES];
     double instructions[WORKLOADS][OPERATIONS][SIDES]; /* 0 if not counted */
     double buddy[WORKLOADS][BUDDY];
+    struct two row[ROWS];
+    double row_micros[ROWS][CONDITIONS][SIDES];
+    double row_instructions[ROWS][SIDES];
+    double row_buddy[ROWS][BUDDY];
 };
 
 void print_report(const struct results *r);

@@ -90,7 +90,7 @@ static struct table closed(struct table t, uint32_t flag)
 
 /* --- diagrams given by states ------------------------------------------------------------- */
 
-#define STATES 32
+#define STATES 1024 /* at most */
 
 /* The record of a state and, in `flag`, whether the state's edge to it is flagged; 0 if none is needed. */
 static uint64_t record_of(uint32_t height, uint32_t then_edge, uint32_t else_edge, uint32_t *flag)
@@ -147,13 +147,31 @@ static struct table path_63(void)
 static struct table exactly_31(void)
 {
     struct table t = empty_table("31 of 63", TOP);
-    uint32_t edge[STATES][2];
-    for (uint32_t i = 0; i < STATES; i++) edge[i][0] = i < 31;
+    uint32_t edge[32][2];
+    for (uint32_t i = 0; i < 32; i++) edge[i][0] = i < 31;
     for (uint32_t h = 1; h <= TOP; h++) {
-        uint32_t states = TOP - h < 31 ? TOP - h + 1 : STATES;
+        uint32_t states = TOP - h < 31 ? TOP - h + 1 : 32;
         for (uint32_t i = 0; i < states; i++) {
             edge[i][1] = edge[i][0];
             edge[i][0] = i < 31 ? edge[i + 1][0] : 1;
+        }
+        add_height(&t, h, edge, states);
+    }
+    return closed(t, edge[0][0] & 1);
+}
+
+/* State i: the settings so far are a number with remainder i; under height h it is below 2^(63 - h). */
+struct table multiples(const char *name, uint32_t m)
+{
+    struct table t = empty_table(name, TOP);
+    uint32_t edge[STATES][2], below[STATES];
+    for (uint32_t i = 0; i < m; i++) edge[i][0] = i > 0;
+    for (uint32_t h = 1; h <= TOP; h++) {
+        uint32_t states = TOP - h < 10 && 1u << (TOP - h) < m ? 1u << (TOP - h) : m;
+        for (uint32_t i = 0; i < m; i++) below[i] = edge[i][0];
+        for (uint32_t i = 0; i < states; i++) {
+            edge[i][0] = below[(2 * i + 1) % m];
+            edge[i][1] = below[2 * i % m];
         }
         add_height(&t, h, edge, states);
     }

@@ -39,4 +39,7 @@ struct table workload(enum workload w);
  * even as they can be; about half of the else-edges are flagged. */
 struct table wide(const char *name, uint32_t count);
 
+/* The setups of 63 settings whose number is a multiple of m (1 to 1,024). */
+struct table multiples(const char *name, uint32_t m);
+
 #endif

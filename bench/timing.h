@@ -2,11 +2,10 @@
 #ifndef TIMING_H
 #define TIMING_H
 
-#include "calls.h"
-#include "tables.h"
+#include "rows.h"
 
-/* WARM: the same memory again and again. CLEARED: before each call sheet and out memory are zeroed,
- * and they, the table and the list are flushed from the caches. */
+/* WARM: the same memory again and again. CLEARED: before each call sheets and out memory are zeroed,
+ * and they, the tables and the list are flushed from the caches. */
 enum condition { WARM, CLEARED, CONDITIONS };
 
 double now(void); /* seconds */
@@ -18,5 +17,6 @@ double reading(enum side side, enum operation op, enum condition c, const struct
 
 /* Medians of both sides in microseconds a call, within about this many seconds. */
 void time_both(const struct table *t, enum operation op, enum condition c, double seconds, double *micros);
+void time_two(const struct two *w, enum condition c, double seconds, double *micros);
 
 #endif

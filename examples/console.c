@@ -11,9 +11,13 @@
  *     parts K         writes the K parts of the table to FOLDER (or here), as part0.table,
  *                     part1.table, ..., reads them back and lists the first setups of each: its
  *                     rank in the part, its digits and its rank in the whole table
- * A refusal is printed as `refused 14 at 0`. Any other line is answered by `what?`, and so is a file
- * with a line that is no number. If there are no settings, `-` stands for the digits of the only
- * setup.
+ *     join FILE       makes this table and the one in the file into one, of the setups of either, and
+ *                     lists its first setups: its rank in the result, and its digits
+ *     share FILE      the same of the setups of both
+ *     without FILE    the same of the setups of this table that are not in the other
+ * A refusal is printed as `refused 14 at 0`, one of the other table as `refused 4 at 2 of table 2`.
+ * Any other line is answered by `what?`, and so is a file with a line that is no number. If there are
+ * no settings, `-` stands for the digits of the only setup.
  */
 #include <inttypes.h>
 #include <limits.h>
@@ -266,7 +270,8 @@ static void answer_numbers(const struct book *book, const char *path)
         fclose(file);
 }
 
-/* Lists the first setups of a part, and `more` if some are left. */
+/* Lists the first setups of a part, with their ranks in the whole if there is one, and `more` if some
+ * are left. */
 static void list_part(const struct book *whole, const struct book *part)
 {
     uint64_t rank, setup;
@@ -276,7 +281,9 @@ static void list_part(const struct book *whole, const struct book *part)
             return;
         printf("%" PRIu64 " ", rank);
         print_setup(setup, settings(part));
-        printf(" %" PRIu64 "\n", rank_of(whole, setup));
+        if (whole != NULL)
+            printf(" %" PRIu64, rank_of(whole, setup));
+        putchar('\n');
     }
     if (!setupbook_is_refusal(setup_of(part, rank)))
         puts("more");
@@ -318,6 +325,54 @@ static void answer_parts(const struct book *book, uint64_t k, const char *folder
     free(path);
 }
 
+typedef uint64_t operation(const uint8_t *, size_t, uint8_t *, size_t, const uint8_t *, size_t,
+                           uint8_t *, size_t, uint8_t *, size_t, uint8_t *, size_t, uint64_t *);
+
+/* The result in `out`, with a pair sheet that grows until the pairs have room (20 says that they have
+ * not). The refusal, or 0; 20 if there is no memory for more. */
+static uint64_t combine(operation *make, const struct book *book, const struct book *other,
+                        uint8_t *out, uint64_t *answer)
+{
+    uint64_t refusal = 20;
+    size_t len;
+    for (len = 32; refusal == 20 && len <= SIZE_MAX / 4; len *= 4) {
+        uint8_t *pairs = allocate(len);
+        if (pairs == NULL)
+            return refusal;
+        refusal = make(book->table, book->table_len, book->sheet, book->sheet_len,
+                       other->table, other->table_len, other->sheet, other->sheet_len,
+                       pairs, len, out, SETUPBOOK_LONGEST, answer);
+        free(pairs);
+    }
+    return refusal;
+}
+
+static void answer_combined(operation *make, const struct book *book, const char *path)
+{
+    static uint8_t out[SETUPBOOK_LONGEST];
+    uint64_t answer[3] = {0, 0, 0}, refusal;
+    struct book other, result;
+    if (read_book(&other, path)) {
+        refusal = combine(make, book, &other, out, answer);
+        if (refusal != 0) {
+            printf("refused %" PRIu64 " at %" PRIu64, refusal, answer[0]);
+            if (answer[1] == 2)
+                printf(" of table 2");
+            putchar('\n');
+        } else {
+            printf("%" PRIu64 " bytes\n", answer[0]);
+            result.table = out;
+            result.table_len = (size_t)answer[0];
+            result.sheet_len = setupbook_sheet_len(result.table_len);
+            result.sheet = allocate(result.sheet_len);
+            if (result.sheet != NULL)
+                list_part(NULL, &result);
+            free(result.sheet);
+        }
+    }
+    free_book(&other);
+}
+
 static void answer_line(const struct book *book, const char *folder, const char *line)
 {
     uint64_t given;
@@ -335,6 +390,12 @@ static void answer_line(const struct book *book, const char *folder, const char 
         answer_why(book, 0);
     else if (strncmp(line, "parts ", 6) == 0 && parse(line + 6, 10, &given))
         answer_parts(book, given, folder);
+    else if (strncmp(line, "join ", 5) == 0)
+        answer_combined(setupbook_join, book, line + 5);
+    else if (strncmp(line, "share ", 6) == 0)
+        answer_combined(setupbook_share, book, line + 6);
+    else if (strncmp(line, "without ", 8) == 0)
+        answer_combined(setupbook_without, book, line + 8);
     else
         puts("what?");
 }

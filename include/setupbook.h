@@ -1,6 +1,6 @@
 /*
- * The setup book: rank, unrank, also of a list, the settings that rule a setup out, and part-write
- * over a reduced OBDD with complement edges.
+ * The setup book: rank, unrank, also of a list, the settings that rule a setup out, part-write, and
+ * two tables made into one, over reduced OBDDs with complement edges.
  *
  * A table is a decision diagram over n settings (0 to 63) with N nodes (0 to 65,535) as a row of
  * N + 1 words of 64 bits, most significant byte first; docs/FORMAT.md has the fields. It permits
@@ -9,33 +9,47 @@
  * of a permitted setup is how many permitted setups are smaller: 0 to C - 1.
  *
  * A division into k parts gives consecutive ranks to part 0, part 1, ... part k - 1: part j starts
- * at rank j * C / k, rounded down (of whole numbers: the product may pass 2^64), and ends before the
- * start of part j + 1. A part is a table over the same settings that permits these setups only,
+ * at rank j * C / k, rounded down (of whole numbers: the product may pass 2^64), and ends before
+ * the start of part j + 1. A part is a table over the same settings that permits these setups only,
  * with the fewest nodes that such a table can have, N' (none if the part is empty).
+ *
+ * Two tables over the same settings can be joined, shared, or the first taken without the second:
+ * the result is the table of these setups with the fewest nodes, N', as of a part. It is made in a
+ * pair sheet with four words for each pair of edges that the two tables lead to: the pair of the
+ * root edges; and, from a pair whose greater height is above 0, the two then-edges and the two
+ * else-edges at that height, flags carried down, where an edge to a lower node stays as it is.
+ * Equal pairs count once, pairs of two edges to the sink count too.
  *
  * A list is a row of numbers of 8 bytes, most significant byte first; up to seven spare bytes at
  * its end are ignored.
  *
  * Memory: `table` has table_len bytes and is only read, and so is the list `ranks`. `sheet` is a
  * work sheet of sheet_len bytes: 8 * (N + 1) are needed, as many as an accepted table has, and for
- * part-write 8 * (4 * N + 512). `out` receives the part: 8 * (N' + 1) of its out_len bytes are
- * needed. `setups` receives a list of as many items as `ranks` has. These memories share no byte,
- * and nobody else writes them during a call. No pointer is null; none needs an alignment but
- * `answer`, that of its numbers. Lengths and contents may be any: there is nothing to check before
- * a call. A call allocates nothing, keeps nothing and takes about 70 KiB of stack.
+ * part-write 8 * (4 * N + 512). `out` receives the part or the result: 8 * (N' + 1) of its out_len
+ * bytes are needed. `pairs` is the pair sheet: 32 bytes a pair are needed. `setups` receives a list
+ * of as many items as `ranks` has. These memories share no byte, but two tables may be the same one
+ * or overlap, and nobody else writes them during a call. No pointer is null; none needs an
+ * alignment but `answer`, that of its numbers. Lengths and contents may be any: there is nothing to
+ * check before a call. A call allocates nothing, keeps nothing and takes about 70 KiB of stack.
  *
  * Sheet afterwards: unchanged by refusals 1 to 8, and 10. After everything else, a result or a
  * refusal, the words that the call requires are zero: N + 1, and 4 * N + 512 for part-write. All
- * other bytes are unchanged. No call depends on what the sheet held before.
+ * other bytes are unchanged. No call depends on what the sheet held before. With two tables each
+ * sheet is as its own table's check leaves it, so sheet1 is zero where table2 is refused, and
+ * sheet2 is unchanged where table1 is. `pairs` is unchanged by a table's refusal and by 19; after
+ * everything else all its pairs_len / 8 words are zero, and up to seven bytes behind them
+ * unchanged.
  *
  * Out memory and `setups` afterwards: the part, or the setups, in front, if they were written; all
  * other bytes are unchanged.
  *
  * Answer, of a function with `answer`: 0, with the result in `answer`, or the number of the
- * refusal, with its place in answer[0]; the words of `answer` that are not needed are 0. Of the
- * others: the result, which is below 2^63, or 2^63 + 2^32 * refusal + place. The place is the
- * record k (1 to N) for refusals 4 to 9, the item (from 1) for 17 and for 14 of a list, otherwise
- * 0. The first refusal that holds is answered, in this order:
+ * refusal, with its place in answer[0] and, with two tables, the table in answer[1], 1 or 2, or 0
+ * for 19, 20, 16 and 11; the words of `answer` that are not needed are 0. Of the others: the
+ * result, which is below 2^63, or 2^63 + 2^32 * refusal + place. The place is the record k (1 to N)
+ * for refusals 4 to 9, the item (from 1) for 17 and for 14 of a list, otherwise 0. The first
+ * refusal that holds is answered, in this order, with two tables 1 to 10 of the first one before
+ * those of the second:
  *      1  table_len is under 8
  *      2  N is above 65,535
  *      1  table_len is not 8 * (N + 1)
@@ -54,8 +68,10 @@
  *     17  unrank a list: a rank is below the one before it; the first such item
  *     14  unrank: the rank is C or more; of a list, the first such item
  *     15  part-write: k is 0 or above 65,535, or j is k or more
- *     16  part-write: the part needs more than 65,535 nodes
- *     11  part-write: out_len is under 8 * (N' + 1)
+ *     19  two tables: their n differ
+ *     20  two tables: pairs_len is under 32 bytes for each pair
+ *     16  part-write, two tables: the part or the result needs more than 65,535 nodes
+ *     11  part-write, two tables: out_len is under 8 * (N' + 1)
  */
 #ifndef SETUPBOOK_H
 #define SETUPBOOK_H
@@ -92,6 +108,31 @@ uint64_t setupbook_unrank_list(const uint8_t *table, size_t table_len,
 /* Writes part j of k to `out`. Answers its length in bytes. Refusals 1 to 10, 15, 16, 11. */
 uint64_t setupbook_part_write(const uint8_t *table, size_t table_len, uint64_t k, uint64_t j,
                               uint8_t *sheet, size_t sheet_len, uint8_t *out, size_t out_len);
+
+/* Writes to `out` the table of the setups that either of two tables permits. answer[0] is its
+ * length in bytes. Refusals 1 to 10 of either table, 19, 20, 16, 11. */
+uint64_t setupbook_join(const uint8_t *table1, size_t table1_len,
+                        uint8_t *sheet1, size_t sheet1_len,
+                        const uint8_t *table2, size_t table2_len,
+                        uint8_t *sheet2, size_t sheet2_len,
+                        uint8_t *pairs, size_t pairs_len, uint8_t *out, size_t out_len,
+                        uint64_t answer[3]);
+
+/* The same of the setups that both tables permit. */
+uint64_t setupbook_share(const uint8_t *table1, size_t table1_len,
+                         uint8_t *sheet1, size_t sheet1_len,
+                         const uint8_t *table2, size_t table2_len,
+                         uint8_t *sheet2, size_t sheet2_len,
+                         uint8_t *pairs, size_t pairs_len, uint8_t *out, size_t out_len,
+                         uint64_t answer[3]);
+
+/* The same of the setups that the first table permits and the second does not. */
+uint64_t setupbook_without(const uint8_t *table1, size_t table1_len,
+                           uint8_t *sheet1, size_t sheet1_len,
+                           const uint8_t *table2, size_t table2_len,
+                           uint8_t *sheet2, size_t sheet2_len,
+                           uint8_t *pairs, size_t pairs_len, uint8_t *out, size_t out_len,
+                           uint64_t answer[3]);
 
 /* The length of the longest table, N = 65,535: out memory that is never too short. */
 #define SETUPBOOK_LONGEST 524288

@@ -52,15 +52,27 @@ impl fmt::Debug for List<'_> {
     }
 }
 
-/// A refusal: its number and its place.
+/// A refusal: its number, its place, and the table that it names, 1 or 2, or 0 if it names none.
 #[derive(Clone, Copy, Debug, PartialEq, Eq)]
 pub struct Refusal {
     pub number: u64,
     pub place: u64,
+    pub table: u64,
 }
 
-/// An answer: 0 and the words of the result, or the number of a refusal and its place. A word that
-/// is not needed is 0.
+impl Refusal {
+    /// One that names no table.
+    pub fn new(number: u64, place: u64) -> Refusal {
+        Refusal {
+            number,
+            place,
+            table: 0,
+        }
+    }
+}
+
+/// An answer: 0 and the words of the result, or the number of a refusal, its place and its table. A
+/// word that is not needed is 0.
 #[derive(Clone, Copy, PartialEq, Eq)]
 pub struct Answer {
     pub status: u64,
@@ -81,7 +93,7 @@ impl Answer {
     pub fn refused(refusal: Refusal) -> Answer {
         Answer {
             status: refusal.number,
-            words: [refusal.place, 0, 0],
+            words: [refusal.place, refusal.table, 0],
         }
     }
 
@@ -92,16 +104,14 @@ impl Answer {
             return Answer::result(number);
         }
         let rest = number & !(1 << 63);
-        Answer::refused(Refusal {
-            number: rest >> 32,
-            place: rest & 0xFFFF_FFFF,
-        })
+        Answer::refused(Refusal::new(rest >> 32, rest & 0xFFFF_FFFF))
     }
 
     pub fn refusal(self) -> Option<Refusal> {
         (self.status > 0).then_some(Refusal {
             number: self.status,
             place: self.words[0],
+            table: self.words[1],
         })
     }
 
@@ -142,7 +152,8 @@ pub fn describe(seed: u64, call: Call, table: &[u8], sheet_len: usize, out_len: 
     )
 }
 
-fn first_words(bytes: &[u8]) -> String {
+/// A byte row for a message: its length and its first words.
+pub fn first_words(bytes: &[u8]) -> String {
     let words = words_of(bytes);
     let shown: Vec<String> = words
         .iter()

@@ -10,16 +10,16 @@ use crate::paper;
 use crate::reading::Table;
 use crate::rng::Rng;
 use crate::sheets;
-use crate::tally::Tally;
+use crate::tally::{name_of, Sheet, Tally};
 
 /// Compares cases of one kind.
 pub type Group = fn(&mut Comparison);
 
 pub struct Comparison {
-    seed: u64,
+    pub(crate) seed: u64,
     pub rng: Rng,
     /// For the places and guards of lent memory.
-    lending: Rng,
+    pub(crate) lending: Rng,
     pub tally: Tally,
 }
 
@@ -73,7 +73,8 @@ impl Comparison {
                 difference(&expected.outcome, &found)
             );
         }
-        self.tally.note(call, &expected.refusals, filled);
+        let filled = filled.map(|length| (Sheet::Of(0), length));
+        self.tally.note(name_of(call), &expected.refusals, filled);
         self.tally.empty_between += u64::from(expected.empty_between);
         found
     }
@@ -225,19 +226,22 @@ pub fn difference(expected: &Outcome, found: &Outcome) -> String {
         ("sheets", &expected.sheet, &found.sheet),
         ("out memories", &expected.out, &found.out),
     ] {
-        match (0..by_paper.len()).find(|&i| by_paper[i] != by_library[i]) {
-            None => text += &format!("\nthe {what} are equal"),
-            Some(i) => {
-                text += &format!(
-                    "\nthe {what} differ from byte {i} (word {}): {:02X} by the paper, {:02X} by the library",
-                    i / 8,
-                    by_paper[i],
-                    by_library[i],
-                )
-            }
-        }
+        text += &first_difference(what, by_paper, by_library);
     }
     text
+}
+
+/// A line for a memory: where it differs first.
+pub fn first_difference(what: &str, by_paper: &[u8], by_library: &[u8]) -> String {
+    match (0..by_paper.len()).find(|&i| by_paper[i] != by_library[i]) {
+        None => format!("\nthe {what} are equal"),
+        Some(i) => format!(
+            "\nthe {what} differ from byte {i} (word {}): {:02X} by the paper, {:02X} by the library",
+            i / 8,
+            by_paper[i],
+            by_library[i],
+        ),
+    }
 }
 
 /// The part that a call has written; it has not been refused.

@@ -3,6 +3,7 @@
 
 use crate::layout::{bytes_of, fields, word, EDGE_BITS};
 use crate::rng::Rng;
+use crate::tables;
 
 /// Makes one change that aims at the given refusal (1 to 9). The result may be refused by
 /// another one, or by none: the paper decides.
@@ -237,6 +238,49 @@ pub fn random_words(rng: &mut Rng) -> Vec<u64> {
         words[1..].sort();
     }
     words
+}
+
+/// Some of the rules of a record.
+fn any_rules(rng: &mut Rng) -> Vec<u64> {
+    (4..=8).filter(|_| rng.chance(50)).collect()
+}
+
+/// A table with faults of a random kind, now and then without.
+pub fn any_faults(rng: &mut Rng) -> Vec<u8> {
+    let n = tables::any_settings(rng);
+    let most = rng.pick(&[4, 8, 20]);
+    let mut words = tables::random_accepted(rng, n, most);
+    match rng.below(9) {
+        0..=1 => {
+            let refusal = rng.between(1, 9);
+            aim(rng, &mut words, refusal);
+        }
+        2..=3 => {
+            for _ in 0..rng.between(2, 4) {
+                // Faults of the records more often than those of the header, which hide them.
+                let refusal = match rng.chance(80) {
+                    true => rng.between(4, 9),
+                    false => rng.between(1, 3),
+                };
+                aim(rng, &mut words, refusal);
+            }
+        }
+        4..=5 => {
+            let rules = any_rules(rng);
+            break_last_record(rng, &mut words, &rules);
+        }
+        6 => {
+            let astray = rng.pick(&[
+                Astray::NotBelow,
+                Astray::ToGreaterHeight,
+                Astray::ToEqualHeight,
+            ]);
+            fall_astray(rng, &mut words, astray);
+        }
+        7 => flip_bits(rng, &mut words),
+        _ => words = small_fields(rng),
+    }
+    damaged_bytes(rng, &words)
 }
 
 /// The words as bytes, now and then with a few bytes too many or too few.

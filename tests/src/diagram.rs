@@ -28,6 +28,29 @@ impl Diagram {
         })
     }
 
+    /// The sinks have height 0.
+    pub fn height(&self, number: u64) -> u64 {
+        if number <= ALWAYS {
+            0
+        } else {
+            self.node(number).0
+        }
+    }
+
+    /// The node reached by a setting of this height, which is that of the node or above it: a node
+    /// below it stays.
+    pub fn follow(&self, number: u64, height: u64, on: bool) -> u64 {
+        if self.height(number) < height {
+            return number;
+        }
+        let (_, high, low) = self.node(number);
+        if on {
+            high
+        } else {
+            low
+        }
+    }
+
     /// The fields of a node.
     fn node(&self, number: u64) -> (u64, u64, u64) {
         fields(self.nodes[number as usize - 2])

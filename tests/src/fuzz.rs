@@ -4,8 +4,12 @@
 use std::fmt;
 use std::time::{Duration, Instant};
 
-use crate::call::{describe, Answer, Call, List, Outcome};
+use crate::call::{describe, Answer, Call, List, Outcome, Refusal};
+use crate::combination::{Combination, Memories, Operation};
+use crate::combined::Reading;
+use crate::combining;
 use crate::comparison::{difference, random_part};
+use crate::fuzz_two::{self, Places};
 use crate::library;
 use crate::lists;
 use crate::pages::{self, Guard, Pages};
@@ -13,11 +17,21 @@ use crate::paper::{self, Expected};
 use crate::raw::{self, Source};
 use crate::rng::Rng;
 use crate::sheets::{self, Length};
-use crate::tally::{is_listed_answer, Tally, OPERATION_COUNT};
+use crate::tally::{
+    is_listed_answer, name_of, name_of_two, Sheet, Tally, ONE_TABLE, OPERATION_COUNT,
+};
 
+const LONGEST_TABLE: usize = raw::LONGEST + 8;
 /// The longest sheet: part-write's for the longest table, and some bytes more.
 const LONGEST_SHEET: usize = 4 * raw::LONGEST + 8 * 512 + 4096;
 const LONGEST_OUT: usize = raw::LONGEST + 8 * 256 + 4096;
+/// The longest memories of a call on two tables; the longest tables may need longer ones.
+const LONGEST_OF_TWO: Memories<usize> = Memories {
+    sheets: [LONGEST_SHEET; 2],
+    pairs: LONGEST_PAIRS,
+    out: LONGEST_OUT,
+};
+const LONGEST_PAIRS: usize = 10 << 20;
 const MOST_ITEMS: u64 = 20_000;
 /// How many differences are printed in full.
 const PRINTED: u64 = 5;
@@ -81,6 +95,7 @@ struct Fuzz {
     list: Pages,
     sheet: Pages,
     out: Pages,
+    two: Places,
     tally: Tally,
     accepted: u64,
     raw_accepted: u64,
@@ -94,14 +109,15 @@ impl Fuzz {
             seed,
             source: Source::new(&mut rng),
             contents: [
-                vec![0; LONGEST_SHEET],
-                vec![0xFF; LONGEST_SHEET],
-                sheets::filling(&mut rng, LONGEST_SHEET),
+                vec![0; LONGEST_PAIRS],
+                vec![0xFF; LONGEST_PAIRS],
+                sheets::filling(&mut rng, LONGEST_PAIRS),
             ],
-            table: Pages::new(raw::LONGEST + 8),
+            table: Pages::new(LONGEST_TABLE),
             list: Pages::new(8 * MOST_ITEMS as usize + 8),
             sheet: Pages::new(LONGEST_SHEET),
             out: Pages::new(LONGEST_OUT),
+            two: Places::new(LONGEST_TABLE, LONGEST_OF_TWO),
             tally: Tally::default(),
             accepted: 0,
             raw_accepted: 0,
@@ -111,24 +127,32 @@ impl Fuzz {
     /// One call and its comparison. A difference comes back as a text.
     fn call(&mut self, number: u64) -> Result<(), String> {
         let mut rng = Rng::new(self.seed ^ number.wrapping_mul(0xD134_2543_DE82_EF95));
-        let (table, is_raw) = self.source.table(&mut rng);
-        let limit = 1 << table.first().map_or(0, |byte| byte / 4);
-        let list = list(&mut rng, limit);
-        let call = any_call(&mut rng, limit, List(&list));
-        let (sheet_len, out_len) = lengths(&mut rng, call, &table);
-        let [sheet, out] = [sheet_len, out_len].map(|len| content(&mut rng, &self.contents, len));
-        let expected = paper::expect(call, &table, sheet, out);
-        let filled = sheets::filled_length(sheet, sheets::needed(call, &table));
-
         let guard = match number % 2 {
             0 => Guard::Behind,
             _ => Guard::Before,
         };
+        pages::set_under_way(number);
+        if rng.below(OPERATION_COUNT) < ONE_TABLE.len() as u64 {
+            self.call_on_one(&mut rng, guard)
+        } else {
+            self.call_on_two(&mut rng, guard)
+        }
+    }
+
+    fn call_on_one(&mut self, rng: &mut Rng, guard: Guard) -> Result<(), String> {
+        let (table, is_raw) = self.source.table(rng);
+        let limit = 1 << table.first().map_or(0, |byte| byte / 4);
+        let list = list(rng, limit);
+        let call = any_call(rng, limit, List(&list));
+        let (sheet_len, out_len) = lengths(rng, call, &table);
+        let [sheet, out] = [sheet_len, out_len].map(|len| content(rng, &self.contents, len));
+        let expected = paper::expect(call, &table, sheet, out);
+        let filled = sheets::filled_length(sheet, sheets::needed(call, &table));
+
         self.table.put(&table, guard);
         self.list.put(call.list().0, guard);
         self.sheet.put(sheet, guard);
         self.out.put(out, guard);
-        pages::set_under_way(number);
         let answer = self.lend(call);
         self.note(call, &expected, filled, is_raw);
         self.compare(call, &table, answer, expected.outcome)
@@ -140,12 +164,48 @@ impl Fuzz {
             })
     }
 
+    fn call_on_two(&mut self, rng: &mut Rng, guard: Guard) -> Result<(), String> {
+        let [(first, first_raw), (second, second_raw)] = self.source.two_tables(rng);
+        // If they are equal, they lie in the same memory every other time.
+        let is_twice = first == second && rng.chance(50);
+        let reading = Reading::new(Combination {
+            operation: rng.pick(&Operation::ALL),
+            first: &first,
+            second: (!is_twice).then_some(&second),
+        });
+        let combination = reading.combination;
+        let lengths = fuzz_two::lengths(rng, reading.needed(), LONGEST_OF_TWO);
+        let before = lengths.map(|len| content(rng, &self.contents, len).to_vec());
+        let expected = reading.expect(&before);
+
+        let found = self.two.run(combination, &before, guard);
+        let name = name_of_two(combination.operation);
+        let returned = returned(&expected.refusals);
+        let filled = combining::filled_lengths(&before, &reading.needed());
+        self.tally.note(name, returned, filled);
+        for (table, is_raw) in [(1, first_raw), (2, second_raw)] {
+            self.note_accepted(returned, table, is_raw);
+        }
+        let compared = found.and_then(|found| match found == expected.outcome {
+            true => Ok(()),
+            false => Err(combining::difference(&expected.outcome, &found)),
+        });
+        compared.map_err(|text| format!("{}\n{text}", combination.describe(self.seed, &lengths)))
+    }
+
     fn note(&mut self, call: Call, expected: &Expected, filled: Option<Length>, is_raw: bool) {
-        let first = expected.refusals.first();
-        self.tally
-            .note(call, first.map_or(&[], std::slice::from_ref), filled);
+        let returned = returned(&expected.refusals);
+        let filled = filled.map(|length| (Sheet::Of(0), length));
+        self.tally.note(name_of(call), returned, filled);
         self.tally.empty_between += u64::from(expected.empty_between);
-        if first.is_none_or(|refusal| refusal.number > 10) {
+        self.note_accepted(returned, 0, is_raw);
+    }
+
+    /// Counts a table, the only one (0), the first or the second, if it has passed: what is returned
+    /// is no refusal of a table, or of the second one where this is the first.
+    fn note_accepted(&mut self, returned: &[Refusal], table: u64, is_raw: bool) {
+        let is_past = |refusal: &Refusal| refusal.number > 10 || refusal.table > table;
+        if returned.iter().all(is_past) {
             self.accepted += 1;
             self.raw_accepted += u64::from(is_raw);
         }
@@ -200,11 +260,16 @@ impl Fuzz {
     }
 }
 
-/// Any operation with any numbers, or with this list.
+/// The refusal that is returned, if there is one.
+fn returned(refusals: &[Refusal]) -> &[Refusal] {
+    &refusals[..refusals.len().min(1)]
+}
+
+/// Any operation on one table, with any numbers, or with this list.
 fn any_call<'a>(rng: &mut Rng, limit: u64, list: List<'a>) -> Call<'a> {
     let number = number(rng, limit);
     let (k, j) = part(rng, limit);
-    match rng.below(OPERATION_COUNT) {
+    match rng.below(ONE_TABLE.len() as u64) {
         0 => Call::Check,
         1 => Call::Count,
         2 => Call::Test { setup: number },

@@ -1,7 +1,8 @@
-//! The library under test, called with guarded memory: the table, the list and all guards have to
-//! stay unchanged.
+//! The library under test, called with guarded memory: tables, the list and all guards have to stay
+//! unchanged.
 
 use crate::call::{describe, Answer, Call, Outcome};
+use crate::combination::{self, Combination, Contents, Memories, Operation};
 use crate::memory::Memory;
 use crate::rng::Rng;
 
@@ -84,6 +85,51 @@ mod ffi {
             sheet_len: usize,
             out: *mut u8,
             out_len: usize,
+        ) -> u64;
+        pub fn setupbook_join(
+            table1: *const u8,
+            table1_len: usize,
+            sheet1: *mut u8,
+            sheet1_len: usize,
+            table2: *const u8,
+            table2_len: usize,
+            sheet2: *mut u8,
+            sheet2_len: usize,
+            pairs: *mut u8,
+            pairs_len: usize,
+            out: *mut u8,
+            out_len: usize,
+            answer: *mut u64,
+        ) -> u64;
+        pub fn setupbook_share(
+            table1: *const u8,
+            table1_len: usize,
+            sheet1: *mut u8,
+            sheet1_len: usize,
+            table2: *const u8,
+            table2_len: usize,
+            sheet2: *mut u8,
+            sheet2_len: usize,
+            pairs: *mut u8,
+            pairs_len: usize,
+            out: *mut u8,
+            out_len: usize,
+            answer: *mut u64,
+        ) -> u64;
+        pub fn setupbook_without(
+            table1: *const u8,
+            table1_len: usize,
+            sheet1: *mut u8,
+            sheet1_len: usize,
+            table2: *const u8,
+            table2_len: usize,
+            sheet2: *mut u8,
+            sheet2_len: usize,
+            pairs: *mut u8,
+            pairs_len: usize,
+            out: *mut u8,
+            out_len: usize,
+            answer: *mut u64,
         ) -> u64;
     }
 }
@@ -186,6 +232,65 @@ pub unsafe fn call_with(
         Call::SpanStart { k, j } => ffi::setupbook_span_start(t, t_len, k, j, s, s_len),
         Call::SpanSize { k, j } => ffi::setupbook_span_size(t, t_len, k, j, s, s_len),
         Call::PartWrite { k, j } => ffi::setupbook_part_write(t, t_len, k, j, s, s_len, o, o_len),
+    })
+}
+
+/// What the library does to two tables, lent together with memories of these contents. The random
+/// numbers place and guard them all; the seed is for messages.
+pub fn combine(
+    seed: u64,
+    rng: &mut Rng,
+    combination: Combination,
+    before: &Contents,
+) -> combination::Outcome {
+    let mut first = Memory::new(combination.first, rng);
+    let mut second = combination.second.map(|table| Memory::new(table, rng));
+    let mut memories = before.each().map(|content| Memory::new(content, rng));
+    let one = first.lend();
+    let tables = [one, second.as_mut().map_or(one, Memory::lend)];
+    let lent = memories.each_mut().map(Memory::lend);
+    // SAFETY: each pointer is valid for its length, and the memories to be written lie apart.
+    let answer = unsafe { combine_with(combination.operation, tables, lent) };
+    let describe = || combination.describe(seed, &before.lengths());
+    for table in [Some(&first), second.as_ref()].into_iter().flatten() {
+        assert!(table.is_unchanged(), "a table has changed\n{}", describe());
+    }
+    for (name, memory) in memories.each().named() {
+        let unchanged = memory.guards_unchanged();
+        assert!(
+            unchanged,
+            "bytes beside {name} have changed\n{}",
+            describe()
+        );
+    }
+    combination::Outcome {
+        answer,
+        memories: memories.map(|memory| memory.content().to_vec()),
+    }
+}
+
+/// The library's answer to an operation on two tables with these memories: pointers and lengths.
+///
+/// # Safety
+///
+/// Each pointer is valid for its length, for writing too but for the tables', and the memories lie
+/// apart; the two tables may be the same.
+pub unsafe fn combine_with(
+    operation: Operation,
+    [(t1, t1_len), (t2, t2_len)]: [(*mut u8, usize); 2],
+    lent: Memories<(*mut u8, usize)>,
+) -> Answer {
+    let function = match operation {
+        Operation::Join => ffi::setupbook_join,
+        Operation::Share => ffi::setupbook_share,
+        Operation::Without => ffi::setupbook_without,
+    };
+    let [(s1, s1_len), (s2, s2_len)] = lent.sheets;
+    let ((p, p_len), (o, o_len)) = (lent.pairs, lent.out);
+    in_words(|answer| {
+        function(
+            t1, t1_len, s1, s1_len, t2, t2_len, s2, s2_len, p, p_len, o, o_len, answer,
+        )
     })
 }
 

@@ -22,8 +22,8 @@ pub fn expect(call: Call, table: &[u8], sheet: &[u8], out: &[u8]) -> Expected {
     let part = settled.as_ref().and_then(|settled| settled.part(call));
     let n = (table.len() >= 8).then(|| table[0] / 4);
     let own = examiner_refusal(call, n, settled.as_ref())
-        .or_else(|| part_refusal(part.as_deref()?, out.len()));
-    refusals.extend(own.map(|number| Refusal { number, place: 0 }));
+        .or_else(|| written_refusal(part.as_deref()?, out.len()));
+    refusals.extend(own.map(|number| Refusal::new(number, 0)));
     if let Call::UnrankList { ranks } = call {
         refusals.extend(list_refusals(ranks, settled.as_ref(), out.len()));
     }
@@ -76,7 +76,7 @@ pub fn out_needed(call: Call, table: &[u8]) -> usize {
 /// Those of refusals 1 to 10 that hold, in the paper's order.
 pub fn table_refusals(call: Call, table: &[u8], sheet_len: usize) -> Vec<Refusal> {
     let mut holding = Vec::new();
-    let mut note = |number: u64, place: u64| holding.push(Refusal { number, place });
+    let mut note = |number: u64, place: u64| holding.push(Refusal::new(number, place));
     if table.len() < 8 {
         note(1, 0);
         return holding;
@@ -135,12 +135,12 @@ fn is_no_part(k: u64, j: u64) -> bool {
     k == 0 || k > 65_535 || j >= k
 }
 
-/// Refusals 16 and 11, of a part that has these words, however many.
-fn part_refusal(part: &[u64], out_len: usize) -> Option<u64> {
-    if part.len() - 1 > 65_535 {
+/// Refusals 16 and 11, of a table to be written that has these words, however many.
+pub fn written_refusal(words: &[u64], out_len: usize) -> Option<u64> {
+    if words.len() - 1 > 65_535 {
         Some(16)
     } else {
-        (out_len < 8 * part.len()).then_some(11)
+        (out_len < 8 * words.len()).then_some(11)
     }
 }
 
@@ -159,7 +159,7 @@ fn list_refusals(ranks: List, settled: Option<&Settled>, out_len: usize) -> Vec<
     ];
     let holding = places.into_iter().filter_map(|(number, place)| {
         let place = place?;
-        Some(Refusal { number, place })
+        Some(Refusal::new(number, place))
     });
     holding.collect()
 }
@@ -171,6 +171,19 @@ pub fn span(total: u128, k: u64, j: u64) -> (u128, u128) {
     (start(j), start(j + 1) - start(j))
 }
 
+/// A table with these faults, if it is settled which setups are permitted: every record is there and
+/// none breaks rule 4 or 6, because heights fall along every edge then, whatever the other faults
+/// are.
+pub fn settled(table: &[u8], faults: &[Refusal]) -> Option<Table> {
+    let falling = faults.iter().all(|fault| ![4, 6].contains(&fault.number));
+    if table.len() < 8 || !falling {
+        return None;
+    }
+    let table = Table::read(table);
+    let last = table.last();
+    (last == table.node_count && table.root.node <= last).then_some(table)
+}
+
 /// A table of which it is settled which setups are permitted, with its places.
 struct Settled {
     table: Table,
@@ -178,19 +191,10 @@ struct Settled {
 }
 
 impl Settled {
-    /// It is settled if every record is there and none breaks rule 4 or 6, because heights fall
-    /// along every edge then, whatever the other faults are.
     fn read(table: &[u8], faults: &[Refusal]) -> Option<Settled> {
-        let falling = faults.iter().all(|fault| ![4, 6].contains(&fault.number));
-        if table.len() < 8 || !falling {
-            return None;
-        }
-        let table = Table::read(table);
-        let last = table.last();
-        (last == table.node_count && table.root.node <= last).then(|| Settled {
-            counts: table.counts(),
-            table,
-        })
+        let table = settled(table, faults)?;
+        let counts = table.counts();
+        Some(Settled { table, counts })
     }
 
     fn total(&self) -> u128 {
@@ -283,7 +287,7 @@ fn narrow(number: u128) -> u64 {
 }
 
 /// Writes the words to the front of a memory. Gives back the number of bytes.
-fn put_words(memory: &mut [u8], words: &[u64]) -> u64 {
+pub fn put_words(memory: &mut [u8], words: &[u64]) -> u64 {
     let bytes = bytes_of(words);
     memory[..bytes.len()].copy_from_slice(&bytes);
     bytes.len() as u64

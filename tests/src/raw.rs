@@ -16,17 +16,29 @@ const LIKELY: [u8; 16] = [
 pub struct Source {
     /// Accepted tables, of which some bytes are changed.
     accepted: Vec<Vec<u8>>,
+    /// Accepted tables with few records, so that two of them have few pairs.
+    small: Vec<Vec<u8>>,
     /// One whose parts can have more than 65,535 records.
     wide: Vec<u8>,
+    /// Tables that make more than 65,535 records of it, with few pairs.
+    chains: [Vec<u8>; 2],
 }
 
 impl Source {
     pub fn new(rng: &mut Rng) -> Source {
         let accepted = (0..500).map(|_| bytes_of(&tables::of_any_size(rng)));
         let accepted = accepted.collect();
-        let wide = tables::wide(rng, 40, 65_530, 5_000);
-        let wide = bytes_of(&tables::with_settings_above(wide, 23));
-        Source { accepted, wide }
+        let wide = bytes_of(&tables::wide_below(rng, 65_530));
+        let small = (0..500).map(|_| {
+            let n = tables::any_settings(rng);
+            bytes_of(&tables::of_few_records(rng, n))
+        });
+        Source {
+            accepted,
+            small: small.collect(),
+            wide,
+            chains: [true, false].map(|only_one| bytes_of(&tables::chain(63, only_one, 0))),
+        }
     }
 
     /// A table, and whether it is raw bytes. One in eight is not, but an accepted one with up to
@@ -40,6 +52,41 @@ impl Source {
         } else {
             (raw(rng), true)
         }
+    }
+
+    /// Two tables, each with whether it is raw bytes, as every other one is. The others are accepted
+    /// ones with up to three bytes changed. Three times in four both have the same n.
+    pub fn two_tables(&self, rng: &mut Rng) -> [(Vec<u8>, bool); 2] {
+        if rng.below(20_000) == 0 {
+            let chain = rng.pick(&self.chains.each_ref());
+            let mut two = [&self.wide, chain].map(|table| (changed(rng, table.clone()), false));
+            rng.shuffle(&mut two);
+            return two;
+        }
+        let [first, mut second] = [(); 2].map(|()| match rng.below(2) {
+            0 => (raw(rng), true),
+            _ => {
+                let table = self.small[rng.index(self.small.len())].clone();
+                (changed(rng, table), false)
+            }
+        });
+        if rng.below(8) == 0 {
+            second = (changed(rng, first.0.clone()), first.1);
+        }
+        let mut two = [first, second];
+        if rng.chance(75) {
+            agree(&mut two);
+        }
+        two
+    }
+}
+
+/// The greater n in both headers.
+fn agree(two: &mut [(Vec<u8>, bool); 2]) {
+    let first_byte = |(table, _): &(Vec<u8>, bool)| table.first().copied();
+    let n = two.iter().filter_map(first_byte).max().unwrap_or(0) / 4;
+    for byte in two.iter_mut().filter_map(|(table, _)| table.first_mut()) {
+        *byte = 4 * n + *byte % 4;
     }
 }
 
@@ -182,6 +229,9 @@ fn claim_length(rng: &mut Rng, bytes: &mut [u8]) {
 
 /// Up to three bytes changed, or a length that does not fit.
 fn changed(rng: &mut Rng, mut table: Vec<u8>) -> Vec<u8> {
+    if table.is_empty() {
+        return table;
+    }
     for _ in 0..rng.below(8).saturating_sub(4) {
         let at = rng.index(table.len());
         table[at] = if rng.chance(50) {

@@ -3,7 +3,7 @@
 
 use crate::layout::{fields, words_of};
 
-#[derive(Clone, Copy, PartialEq, Eq)]
+#[derive(Clone, Copy, PartialEq, Eq, PartialOrd, Ord)]
 pub struct Edge {
     pub node: u64,
     pub flag: bool,

@@ -300,6 +300,26 @@ pub fn of_any_size(rng: &mut Rng) -> Vec<u64> {
     random_accepted(rng, n, most)
 }
 
+/// A number of settings; as often as not a small one.
+pub fn any_settings(rng: &mut Rng) -> u64 {
+    match rng.below(2) {
+        0 => rng.between(1, 8),
+        _ => rng.between(1, 63),
+    }
+}
+
+/// A random accepted table for n settings with few records, so that two of them have few pairs.
+pub fn of_few_records(rng: &mut Rng, n: u64) -> Vec<u64> {
+    let most = rng.pick(&[0, 3, 6, 12, 30]);
+    random_accepted(rng, n, most)
+}
+
+/// Two of them with the same n.
+pub fn two_of_few_records(rng: &mut Rng) -> [Vec<u64>; 2] {
+    let n = any_settings(rng);
+    [(); 2].map(|()| of_few_records(rng, n))
+}
+
 /// One record a height up to n: only the last setup, or all setups but the first, or the
 /// opposite. Its counts are the greatest and the smallest ones of each height.
 pub fn chain(n: u64, only_one: bool, root_flag: u64) -> Vec<u64> {
@@ -349,6 +369,11 @@ pub fn wide(rng: &mut Rng, n: u64, node_count: usize, widest: usize) -> Vec<u64>
 pub fn with_settings_above(mut words: Vec<u64>, more: u64) -> Vec<u64> {
     words[0] += word(more, 0, 0);
     words
+}
+
+/// A table with exactly so many records and n = 63; the first 23 settings change nothing.
+pub fn wide_below(rng: &mut Rng, node_count: usize) -> Vec<u64> {
+    with_settings_above(wide(rng, 40, node_count, 5_000), 23)
 }
 
 /// The same diagram with settings that change nothing below all others.

@@ -3,16 +3,19 @@
 use std::collections::{BTreeMap, BTreeSet};
 
 use crate::call::{Answer, Call, Refusal};
+use crate::combination::Operation;
 use crate::sheets::Length;
 
-/// The refusals of every operation in the paper's order; of 1 its second place, since a table
-/// under 8 bytes has no other condition but 15, 17 and 18.
+/// The refusals of a table, by every operation, in the paper's order; of 1 its second place, since
+/// of a table under 8 bytes no other condition holds, but 15, 17 and 18.
 const SHARED: [u64; 10] = [2, 1, 3, 10, 4, 6, 5, 7, 8, 9];
 const RECORD_RULES: [u64; 5] = [4, 6, 5, 7, 8];
-const LAST_REFUSAL: u64 = 18;
+const LAST_REFUSAL: u64 = 20;
 
-/// Each operation with the refusals of its own, which come last.
-const OPERATIONS: [(&str, &[u64]); 10] = [
+/// An operation with the refusals of its own, which come last.
+pub type Listed = (&'static str, &'static [u64]);
+
+pub const ONE_TABLE: [Listed; 10] = [
     ("check", &[]),
     ("count", &[]),
     ("test", &[12]),
@@ -25,9 +28,26 @@ const OPERATIONS: [(&str, &[u64]); 10] = [
     ("part-write", &[15, 16, 11]),
 ];
 
-pub const OPERATION_COUNT: u64 = OPERATIONS.len() as u64;
+const OF_TWO: &[u64] = &[19, 20, 16, 11];
 
-fn operation(call: Call) -> &'static str {
+pub const TWO_TABLES: [Listed; 3] = [("join", OF_TWO), ("share", OF_TWO), ("without", OF_TWO)];
+
+pub const OPERATION_COUNT: u64 = (ONE_TABLE.len() + TWO_TABLES.len()) as u64;
+
+/// All operations.
+pub fn operations() -> Vec<Listed> {
+    [&ONE_TABLE[..], &TWO_TABLES].concat()
+}
+
+pub fn name_of_two(operation: Operation) -> &'static str {
+    match operation {
+        Operation::Join => "join",
+        Operation::Share => "share",
+        Operation::Without => "without",
+    }
+}
+
+pub fn name_of(call: Call) -> &'static str {
     match call {
         Call::Check => "check",
         Call::Count => "count",
@@ -44,8 +64,9 @@ fn operation(call: Call) -> &'static str {
 
 /// Whether an operation may answer this refusal, or a result if it is 0.
 fn is_listed(name: &str, number: u64) -> bool {
-    let own = OPERATIONS.iter().find(|operation| operation.0 == name);
-    number == 0 || SHARED.contains(&number) || own.unwrap().1.contains(&number)
+    let mut operations = operations().into_iter();
+    let (_, own) = operations.find(|operation| operation.0 == name).unwrap();
+    number == 0 || SHARED.contains(&number) || own.contains(&number)
 }
 
 /// Whether an answer is one that is listed for its call, whatever the table is.
@@ -53,14 +74,14 @@ pub fn is_listed_answer(call: Call, answer: Answer) -> bool {
     let [value, more @ ..] = answer.words;
     let items = call.list().items().len() as u64;
     match answer.refusal() {
-        Some(Refusal { number, place }) => {
+        Some(Refusal { number, place, .. }) => {
             let places = match (call, number) {
                 (_, 4..=9) => 1..=65_535,
                 (Call::UnrankList { .. }, 17) => 2..=items,
                 (Call::UnrankList { .. }, 14) => 1..=items,
                 _ => 0..=0,
             };
-            is_listed(operation(call), number) && places.contains(&place) && more == [0, 0]
+            is_listed(name_of(call), number) && places.contains(&place) && more == [0, 0]
         }
         None if matches!(call, Call::RuledOut { .. }) => match answer.words {
             [kind @ 0..=2, p, setup] => (1..=63).contains(&p) == (kind == 2) && setup < 1 << 63,
@@ -76,33 +97,112 @@ fn is_listed_value(call: Call, value: u64, items: u64) -> bool {
         Call::Check => value >> 32 <= 63 && value & 0xFFFF_FFFF <= 65_535,
         Call::Test { .. } => value <= 1,
         Call::UnrankList { .. } => value == items,
-        Call::PartWrite { .. } => (8..=524_288).contains(&value) && value.is_multiple_of(8),
+        Call::PartWrite { .. } => is_table_length(value),
         Call::Rank { .. } | Call::Unrank { .. } => value < 1 << 63,
         Call::Count | Call::SpanStart { .. } | Call::SpanSize { .. } => value <= 1 << 63,
         Call::RuledOut { .. } => unreachable!("answered in three words"),
     }
 }
 
+/// Whether an answer is one that is listed for an operation on two tables, whatever these are.
+pub fn is_listed_of_two(operation: Operation, answer: Answer) -> bool {
+    let [value, table, last] = answer.words;
+    let Some(Refusal { number, place, .. }) = answer.refusal() else {
+        return [table, last] == [0, 0] && is_table_length(value);
+    };
+    let places = match number {
+        4..=9 => 1..=65_535,
+        _ => 0..=0,
+    };
+    let tables = match SHARED.contains(&number) {
+        true => 1..=2,
+        false => 0..=0,
+    };
+    is_listed(name_of_two(operation), number)
+        && places.contains(&place)
+        && tables.contains(&table)
+        && last == 0
+}
+
+/// Whether a table can have so many bytes.
+fn is_table_length(bytes: u64) -> bool {
+    (8..=524_288).contains(&bytes) && bytes.is_multiple_of(8)
+}
+
+/// The table that a refusal names, or 0, and its number; both are 0 for a result.
+type Cause = (u64, u64);
+
+const RESULT: Cause = (0, 0);
+
+fn cause(refusal: &Refusal) -> Cause {
+    (refusal.table, refusal.number)
+}
+
+/// The tables that the refusals of an operation name; 0 if it is on one table.
+fn named_tables(name: &str) -> &'static [u64] {
+    match TWO_TABLES.iter().any(|operation| operation.0 == name) {
+        true => &[1, 2],
+        false => &[0],
+    }
+}
+
+/// All refusals of an operation in the paper's order.
+fn causes((name, own): Listed) -> Vec<Cause> {
+    let of_table = |&table: &u64| SHARED.map(|number| (table, number));
+    let tables = named_tables(name).iter().flat_map(of_table);
+    tables
+        .chain(own.iter().map(|&number| (0, number)))
+        .collect()
+}
+
+/// A table's sheet, by the number of the table, 0 if there is one table; or the pair sheet.
+#[derive(Clone, Copy, Debug, PartialEq, Eq, PartialOrd, Ord)]
+pub enum Sheet {
+    Of(u64),
+    Pairs,
+}
+
+/// The sheets of an operation.
+fn sheets_of(name: &str) -> Vec<Sheet> {
+    match named_tables(name) {
+        [only] => vec![Sheet::Of(*only)],
+        tables => tables
+            .iter()
+            .map(|&table| Sheet::Of(table))
+            .chain([Sheet::Pairs])
+            .collect(),
+    }
+}
+
+/// The lengths of a sheet that are to be met with a refusal, or with a result.
+fn lengths_to_meet((table, number): Cause, sheet: Sheet) -> &'static [Length] {
+    match (number, sheet) {
+        (10, Sheet::Of(own)) if own == table => &[Length::Short],
+        (20, Sheet::Pairs) => &[Length::Short],
+        _ => &[Length::Just, Length::SpareBytes, Length::MorePlaces],
+    }
+}
+
 /// Whether two refusals can hold together. A setup of 2^n or more is neither permitted nor
 /// unpermitted; with a fault of 4 or 6 it is not settled which setups are permitted; where there
-/// is no part or no table of it, nothing more is said of it.
-fn compatible(first: u64, other: u64) -> bool {
+/// is no part or no result, or no table of it, nothing more is said of it.
+fn compatible((_, first): Cause, (_, other): Cause) -> bool {
     !matches!(
         (first, other),
-        (12, 13) | (4 | 6, 13 | 14 | 16 | 11) | (15, 16 | 11) | (16, 11)
+        (12, 13) | (4 | 6, 13 | 14 | 20 | 16 | 11) | (15 | 19, 16 | 11) | (16, 11)
     )
 }
 
 /// An operation, the refusal returned and another one whose condition holds too.
-type Pair = (&'static str, u64, u64);
+type Pair = (&'static str, Cause, Cause);
 
 #[derive(Default)]
 pub struct Tally {
     pub cases: u64,
-    /// By operation and refusal number, 0 for a result.
-    answers: BTreeMap<(&'static str, u64), u64>,
-    /// Of these the cases in which no byte of the sheet was zero before.
-    filled: BTreeMap<(&'static str, u64, Length), u64>,
+    /// By operation and refusal.
+    answers: BTreeMap<(&'static str, Cause), u64>,
+    /// Of these the cases in which no byte of a sheet was zero before.
+    filled: BTreeMap<(&'static str, Cause, Sheet, Length), u64>,
     together: BTreeSet<Pair>,
     /// Both at the same record.
     same_record: BTreeSet<Pair>,
@@ -114,20 +214,26 @@ pub struct Tally {
 
 impl Tally {
     /// Notes a case, the refusals whose conditions hold in it, the returned one first, and the
-    /// length of its sheet, if that had no zero byte.
-    pub fn note(&mut self, call: Call, refusals: &[Refusal], filled: Option<Length>) {
+    /// lengths of those of its sheets that had no zero byte.
+    pub fn note(
+        &mut self,
+        name: &'static str,
+        refusals: &[Refusal],
+        filled: impl IntoIterator<Item = (Sheet, Length)>,
+    ) {
         self.cases += 1;
-        let name = operation(call);
-        let number = refusals.first().map_or(0, |refusal| refusal.number);
-        *self.answers.entry((name, number)).or_default() += 1;
-        if let Some(length) = filled {
-            *self.filled.entry((name, number, length)).or_default() += 1;
+        let answer = refusals.first().map_or(RESULT, cause);
+        *self.answers.entry((name, answer)).or_default() += 1;
+        for (sheet, length) in filled {
+            let met = self.filled.entry((name, answer, sheet, length));
+            *met.or_default() += 1;
         }
         for other in refusals.iter().skip(1) {
             let first = refusals[0];
-            let pair = (name, first.number, other.number);
+            let pair = (name, cause(&first), cause(other));
             self.together.insert(pair);
-            if RECORD_RULES.contains(&first.number) && RECORD_RULES.contains(&other.number) {
+            let is_rule = |refusal: &Refusal| RECORD_RULES.contains(&refusal.number);
+            if is_rule(&first) && is_rule(other) && first.table == other.table {
                 let set = if first.place == other.place {
                     &mut self.same_record
                 } else {
@@ -140,7 +246,8 @@ impl Tally {
 
     /// How many cases of an operation were answered by this refusal, or by a result if it is 0.
     pub fn answered(&self, operation: &'static str, number: u64) -> u64 {
-        self.answers.get(&(operation, number)).copied().unwrap_or(0)
+        let of_table = |table| self.answers.get(&(operation, (table, number)));
+        (0..=2).filter_map(of_table).sum()
     }
 
     /// How many cases of an operation there were.
@@ -149,82 +256,89 @@ impl Tally {
         numbers.map(|number| self.answered(operation, number)).sum()
     }
 
-    /// Every result and every refusal of every operation has been met, and no other.
-    pub fn assert_every_answer(&self) {
-        for (name, _) in OPERATIONS {
-            for number in 0..=LAST_REFUSAL {
-                let met = self.answered(name, number) > 0;
-                assert!(
-                    met == is_listed(name, number),
-                    "{name}, refusal {number} (0: a result): met is {met}"
-                );
-            }
+    /// A result and every refusal of each of these operations have been met, and no other.
+    pub fn assert_every_answer(&self, operations: &[Listed]) {
+        for &operation in operations {
+            let of_operation = self.answers.keys().filter(|key| key.0 == operation.0);
+            let met: BTreeSet<Cause> = of_operation.map(|key| key.1).collect();
+            let listed: BTreeSet<Cause> = causes(operation).into_iter().chain([RESULT]).collect();
+            assert_eq!(met, listed, "{}: met, listed (table, refusal)", operation.0);
         }
     }
 
-    /// Every operation has been called so often.
-    pub fn assert_calls(&self, least: u64) {
-        for (name, _) in OPERATIONS {
+    /// Each of these operations has been called so often.
+    pub fn assert_calls(&self, operations: &[Listed], least: u64) {
+        for (name, _) in operations {
             let calls = self.calls(name);
             assert!(calls >= least, "{name}: {calls} calls");
         }
     }
 
-    /// Every result and every refusal of every operation has been met with sheets without a zero
-    /// byte: just long enough, with spare bytes and with more places; 10 with short ones. Each 50
-    /// times, but 16, whose tables are long, at least once.
-    pub fn assert_every_sheet(&self) {
-        for (name, _) in OPERATIONS {
-            for number in (0..=LAST_REFUSAL).filter(|&number| is_listed(name, number)) {
-                let lengths: &[Length] = match number {
-                    10 => &[Length::Short],
-                    _ => &[Length::Just, Length::SpareBytes, Length::MorePlaces],
-                };
-                let least = if number == 16 { 1 } else { 50 };
-                for &length in lengths {
-                    let met = self.filled.get(&(name, number, length)).copied();
-                    assert!(
-                        met.unwrap_or(0) >= least,
-                        "{name}, refusal {number} (0: a result), {length:?}: filled sheets met {met:?}"
-                    );
+    /// A result and every refusal of each of these operations have been met with sheets without a
+    /// zero byte: just long enough, with spare bytes and with more places; 10 and 20 with short ones.
+    /// Each 50 times, but 16, whose tables are long, at least once.
+    pub fn assert_every_sheet(&self, operations: &[Listed]) {
+        for &operation in operations {
+            for cause in causes(operation).into_iter().chain([RESULT]) {
+                for sheet in sheets_of(operation.0) {
+                    self.assert_sheet(operation.0, cause, sheet);
                 }
             }
         }
     }
 
-    /// How many cases had a sheet of this length without a zero byte.
+    fn assert_sheet(&self, name: &'static str, cause: Cause, sheet: Sheet) {
+        let (table, number) = cause;
+        let least = if number == 16 { 1 } else { 50 };
+        for &length in lengths_to_meet(cause, sheet) {
+            let met = self.filled.get(&(name, cause, sheet, length)).copied();
+            assert!(
+                met.unwrap_or(0) >= least,
+                "{name}, refusal {number} (0: a result) of table {table}, {sheet:?}, {length:?}: filled sheets met {met:?}"
+            );
+        }
+    }
+
+    /// How many sheets of this length had no zero byte.
     fn filled(&self, length: Length) -> u64 {
-        let cases = self.filled.iter().filter(|(key, _)| key.2 == length);
+        let cases = self.filled.iter().filter(|(key, _)| key.3 == length);
         cases.map(|(_, cases)| cases).sum()
     }
 
-    /// Every two refusals that can hold together have been met together in every operation that
-    /// has both, in the paper's order, and no others.
-    pub fn assert_every_pair(&self) {
-        for (name, own) in OPERATIONS {
-            let order = [&SHARED, own].concat();
+    /// Every two refusals that can hold together have been met together in each of these operations
+    /// that has both, in the paper's order, and no others.
+    pub fn assert_every_pair(&self, operations: &[Listed]) {
+        for &operation in operations {
+            let name = operation.0;
+            let order = causes(operation);
             for (i, &first) in order.iter().enumerate() {
                 for &other in &order[i + 1..] {
                     let met = self.together.contains(&(name, first, other));
                     assert!(
                         met == compatible(first, other),
-                        "{name}, {first} before {other}: met is {met}"
+                        "{name}, {first:?} before {other:?} (table, refusal): met is {met}"
                     );
                 }
             }
-            self.assert_every_record_pair(name);
+            for &table in named_tables(name) {
+                self.assert_every_record_pair(name, table);
+            }
         }
     }
 
-    fn assert_every_record_pair(&self, name: &'static str) {
+    fn assert_every_record_pair(&self, name: &'static str, table: u64) {
         for (i, &first) in RECORD_RULES.iter().enumerate() {
             for &other in &RECORD_RULES[i + 1..] {
-                let met = self.same_record.contains(&(name, first, other));
-                assert!(met, "{name}: no case of {first} and {other} at one record");
-                let met = self.later_record.contains(&(name, other, first));
+                let [earlier, later] = [(table, first), (table, other)];
+                let met = self.same_record.contains(&(name, earlier, later));
                 assert!(
                     met,
-                    "{name}: no case of {other} with {first} at a later record"
+                    "{name}: no case of {earlier:?} and {later:?} at one record"
+                );
+                let met = self.later_record.contains(&(name, later, earlier));
+                assert!(
+                    met,
+                    "{name}: no case of {later:?} with {earlier:?} at a later record"
                 );
             }
         }
@@ -236,7 +350,7 @@ impl Tally {
         for number in 1..=LAST_REFUSAL {
             text += &format!(" {number:>8}");
         }
-        for (name, _) in OPERATIONS {
+        for (name, _) in operations() {
             text += &format!("\n{name:<11} {:>10}", self.calls(name));
             for number in 0..=LAST_REFUSAL {
                 let shown = match is_listed(name, number) {
@@ -251,7 +365,7 @@ impl Tally {
 
     pub fn summary(&self) -> String {
         let mut by_number: BTreeMap<u64, u64> = BTreeMap::new();
-        for ((_, number), cases) in &self.answers {
+        for ((_, (_, number)), cases) in &self.answers {
             *by_number.entry(*number).or_default() += cases;
         }
         let parts: Vec<String> = by_number

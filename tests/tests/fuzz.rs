@@ -1,7 +1,7 @@
 //! A short run over raw bytes, each memory beside a guard page; the script `fuzz` makes the long one.
 
 use setupbook_tests::comparison::report;
-use setupbook_tests::tally::OPERATION_COUNT;
+use setupbook_tests::tally::{operations, OPERATION_COUNT};
 use setupbook_tests::{fuzz, rng::Rng};
 
 #[test]
@@ -10,5 +10,5 @@ fn raw_bytes_are_answered_as_the_paper_says() {
     report(&run.to_string());
     assert_eq!(run.differences, 0);
     assert!(run.tally.empty_between >= 50);
-    run.tally.assert_calls(20_000);
+    run.tally.assert_calls(&operations(), 20_000);
 }

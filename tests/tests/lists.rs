@@ -38,7 +38,7 @@ fn unrank_list(ranks: &[u8]) -> Call<'_> {
 }
 
 fn refused(number: u64, place: u64) -> Answer {
-    Answer::refused(Refusal { number, place })
+    Answer::refused(Refusal::new(number, place))
 }
 
 /// Unranks a list, in memories that are long enough.

@@ -186,7 +186,7 @@ fn write_any(comparison: &mut Comparison, table: &[u8], k: u64, out_len: usize) 
 }
 
 fn refused(number: u64) -> Answer {
-    Answer::refused(Refusal { number, place: 0 })
+    Answer::refused(Refusal::new(number, 0))
 }
 
 /// Below settings that change nothing, all of 2^a parts have one record more in each of the a

@@ -1,6 +1,10 @@
 //! The reference itself: counts, ranks and setups against a brute-force reader of all setups, the
-//! tables of parts against those made from truth tables, and starts and sizes against adding up.
+//! tables of parts against those made from truth tables, starts and sizes against adding up, and two
+//! tables made into one against trying all setups.
 
+use setupbook_tests::call::Call;
+use setupbook_tests::combination::Operation;
+use setupbook_tests::combined::{pair_count, Results};
 use setupbook_tests::comparison::report;
 use setupbook_tests::layout::bytes_of;
 use setupbook_tests::paper;
@@ -133,4 +137,88 @@ fn spans_are_those_of_adding_up() {
             assert_eq!(end, total, "{k} parts of {total}");
         }
     }
+}
+
+/// The edge below, at a setting of this height; a lower edge stays.
+fn step(table: &Table, edge: Edge, height: u64, on: bool) -> Edge {
+    if table.height(edge.node) < height {
+        return edge;
+    }
+    let record = table.record(edge.node);
+    let next = match on {
+        true => record.then_edge,
+        false => record.else_edge,
+    };
+    Edge {
+        node: next.node,
+        flag: edge.flag != next.flag,
+    }
+}
+
+/// The number of pairs by following every setup from the roots to the sinks, and comparing each pair
+/// with all that have been met.
+fn pairs_by_walking(first: &Table, second: &Table) -> usize {
+    let mut met: Vec<(Edge, Edge)> = Vec::new();
+    for setup in 0..1u64 << first.n.max(second.n) {
+        let (mut one, mut other) = (first.root, second.root);
+        loop {
+            if !met.contains(&(one, other)) {
+                met.push((one, other));
+            }
+            let height = first.height(one.node).max(second.height(other.node));
+            if height == 0 {
+                break;
+            }
+            let on = (setup >> (height - 1)) & 1 == 1;
+            one = step(first, one, height, on);
+            other = step(second, other, height, on);
+        }
+    }
+    met.len()
+}
+
+/// Accepted, and each setup permitted as the operation says of the two tables.
+fn compare_results(first: &Table, second: &Table) {
+    let mut results = Results::new(first, second);
+    for operation in Operation::ALL {
+        let bytes = bytes_of(&results.table(operation));
+        assert!(paper::table_refusals(Call::Check, &bytes, usize::MAX).is_empty());
+        let result = Table::read(&bytes);
+        assert_eq!(result.n, first.n);
+        for setup in 0..1u64 << first.n {
+            let [one, other] = [first, second].map(|table| table.permits(table.root, setup));
+            let permitted = operation.permits(one, other);
+            assert_eq!(result.permits(result.root, setup), permitted);
+        }
+    }
+}
+
+#[test]
+fn two_tables_are_those_of_brute_force() {
+    let mut rng = Rng::new(Rng::seed_of_run());
+    let mut cases = 0;
+    for n in 0..=9 {
+        for _ in 0..60 {
+            let most = rng.pick(&[0, 2, 8, 20]);
+            let [first, second] = [n, rng.below(n + 1)].map(|n| {
+                let words = tables::random_accepted(&mut rng, n, most);
+                Table::read(&bytes_of(&words))
+            });
+            assert_eq!(
+                pair_count(&first, &second),
+                pairs_by_walking(&first, &second)
+            );
+            assert_eq!(
+                pair_count(&second, &first),
+                pairs_by_walking(&second, &first)
+            );
+            // Settings that change nothing above make n equal.
+            let second = Table { n, ..second };
+            compare_results(&first, &second);
+            compare_results(&second, &first);
+            compare_results(&first, &first);
+            cases += 1;
+        }
+    }
+    report(&format!("two tables, by brute force: {cases} pairs"));
 }

@@ -1,6 +1,8 @@
 //! The paper's samples.
 
 use setupbook_tests::call::{Answer, Call, List, Outcome, Refusal};
+use setupbook_tests::combination::{self, Memories, Operation};
+use setupbook_tests::combined::Reading;
 use setupbook_tests::comparison::{front, Comparison};
 use setupbook_tests::layout::{bytes_of, words_of};
 
@@ -86,7 +88,7 @@ fn refused_samples() -> Vec<(Vec<u8>, u64, u64)> {
 }
 
 fn refused(number: u64, place: u64) -> Answer {
-    Answer::refused(Refusal { number, place })
+    Answer::refused(Refusal::new(number, place))
 }
 
 /// Asks the library, and compares it with the reference too.
@@ -269,6 +271,122 @@ fn written_parts() {
     }
     for (k, j) in [(0, 0), (2, 2), (65_536, 0)] {
         assert_eq!(write(k, j, 0).answer, refused(15, 0));
+    }
+}
+
+/// A call on two tables, with sheets of five places and all ones. The tables have three records
+/// and pass, so their sheets and the places of the pair sheet come back blank.
+fn combine(
+    comparison: &mut Comparison,
+    reading: &Reading,
+    pairs: usize,
+    out: usize,
+) -> combination::Outcome {
+    let lengths = Memories {
+        sheets: [40; 2],
+        pairs,
+        out,
+    };
+    let outcome = comparison.combine(reading, &lengths.map(|len| vec![0xFF; len]));
+    for sheet in &outcome.memories.sheets {
+        assert_eq!(words_of(sheet), [0, 0, 0, 0, u64::MAX]);
+    }
+    let (places, spare) = outcome.memories.pairs.split_at(pairs / 8 * 8);
+    assert!(places.iter().all(|&byte| byte == 0));
+    assert!(spare.iter().all(|&byte| byte == 0xFF));
+    outcome
+}
+
+/// Table A with itself has 6 pairs, of four places each: 192 bytes serve, 191 do not.
+#[test]
+fn a_with_itself() {
+    let mut comparison = Comparison::of_run();
+    let table = bytes_of(&A);
+    for reading in [None, Some(&table[..])]
+        .map(|second| Reading::all(&table, second))
+        .as_flattened()
+    {
+        assert_eq!(reading.pairs, Some(6));
+        let result: &[u64] = match reading.combination.operation {
+            Operation::Join | Operation::Share => &A,
+            Operation::Without => &[0x0C00000000000001],
+        };
+        for pairs in [192, 193, 199, 200, 223, 224] {
+            let outcome = combine(&mut comparison, reading, pairs, 40);
+            assert_eq!(outcome.answer, Answer::result(8 * result.len() as u64));
+            assert_eq!(words_of(outcome.written()), result);
+            let behind = &outcome.memories.out[outcome.written().len()..];
+            assert!(behind.iter().all(|&byte| byte == 0xFF));
+        }
+        let short = combine(&mut comparison, reading, 192, 8 * result.len() - 1);
+        assert_eq!(short.answer, refused(11, 0));
+        assert!(short.memories.out.iter().all(|&byte| byte == 0xFF));
+        for pairs in [191, 184, 160, 32, 31, 8, 7, 0] {
+            let outcome = combine(&mut comparison, reading, pairs, 40);
+            assert_eq!(outcome.answer, refused(20, 0));
+        }
+    }
+}
+
+/// One pair there always is: a pair sheet under 32 bytes is refused, whatever the tables are.
+#[test]
+fn one_pair() {
+    let mut comparison = Comparison::of_run();
+    for n in 0..=63 {
+        let nothing = bytes_of(&[(n << 58) + 1]);
+        for reading in &Reading::all(&nothing, None) {
+            assert_eq!(reading.pairs, Some(1));
+            for (pairs, answer) in [
+                (0, refused(20, 0)),
+                (31, refused(20, 0)),
+                (32, Answer::result(8)),
+            ] {
+                let lengths = Memories {
+                    pairs,
+                    ..reading.needed()
+                };
+                let outcome = comparison.combine_lengths(reading, lengths);
+                assert_eq!(outcome.answer, answer);
+            }
+        }
+    }
+}
+
+/// The refused samples as the first table, as the second one, and as both.
+#[test]
+fn refused_tables_of_two() {
+    let mut comparison = Comparison::of_run();
+    let a = bytes_of(&A);
+    let untouched = [u64::MAX; 5];
+    let blank = [0, 0, 0, 0, u64::MAX];
+    for (table, number, place) in refused_samples() {
+        let own = if number == 9 { blank } else { untouched };
+        for (first, second, named, left) in [
+            (&table, Some(&a[..]), 1, [own, untouched]),
+            (&a, Some(&table[..]), 2, [blank, own]),
+            (&table, None, 1, [own, untouched]),
+        ] {
+            for reading in &Reading::all(first, second) {
+                let lengths = Memories {
+                    sheets: [40; 2],
+                    pairs: 197,
+                    out: 40,
+                };
+                let outcome = comparison.combine(reading, &lengths.map(|len| vec![0xFF; len]));
+                let refusal = Refusal {
+                    table: named,
+                    ..Refusal::new(number, place)
+                };
+                assert_eq!(outcome.answer, Answer::refused(refusal));
+                let memories = &outcome.memories;
+                assert_eq!(
+                    memories.sheets.each_ref().map(|sheet| words_of(sheet)),
+                    left
+                );
+                assert_eq!(memories.pairs, [0xFF; 197]);
+                assert_eq!(memories.out, [0xFF; 40]);
+            }
+        }
     }
 }
 

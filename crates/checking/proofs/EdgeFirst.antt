@@ -10,19 +10,15 @@ use lib.ListN.{length}
 use borrow.Author.Tests.{ltb-true, leb-true, lt-ltb, le-leb}
 use Rattle.words.specs.Words.{wordAt}
 use Rattle.words.proofs.Cases.{or-true, or-either, both-true}
-use Rattle.diagram.specs.Format.{Words, highField, settings, nodes, height, thenEdge, elseEdge}
+use Rattle.diagram.specs.Format.{Words, settings, nodes, height, thenEdge, elseEdge}
 use Rattle.diagram.specs.Answer.{Answer, value, refusal, andThen, pass, each}
 use Rattle.diagram.specs.Rules.{misled, checkHeader, checkRecord, checkRecords, checkDiagram, check, Accepts}
 use Rattle.diagram.proofs.AnswerLaws.{refused-not, each-all, all-each, each-agree, each-refused}
 use Rattle.diagram.proofs.Accept.{fitting, fits, records-reduced}
+use Rattle.diagram.proofs.Fields.{word-below}
 use Rattle.diagram.proofs.Unique.{rising}
 use Rattle.checking.specs.Operations.{checkingFor, sheetBy}
 use Rattle.checking.specs.EdgeFirst.{formerRecord, formerFor, BreaksBoth, Moves}
-
--- a word of a smaller height is smaller
-lower : (a b : ℕ) → highField a < highField b → a < b
-unfolding highField
-lower a b l = omega arith
 
 -- where all records before it pass, a record with an edge to an earlier one of greater height breaks both rules
 pub taller-breaks-both : (w : Words) (n k j : ℕ) → checkRecords w n k ≡ pass → j ≤ k → 0 < height w (suc k) → height w (suc k) < height w j
@@ -32,7 +28,7 @@ taller-breaks-both w n k zero e l t h to = absurd (omega arith)
 taller-breaks-both w n zero (suc j) e l t h to = absurd (omega arith)
 taller-breaks-both w n (suc k) (suc j) e l t h to =
     let R = records-reduced w n (suc k) e in
-    let a = lower (w (suc (suc k))) (w (suc j)) h in
+    let a = word-below (w (suc (suc k))) (w (suc j)) h in
     let b = rising w n (suc k) R j k (omega arith) (omega arith) in
     let i : suc (suc k) - 1 ≡ suc k = omega arith in
     let leads : (d : ℕ) → d / 2 ≡ suc j → misled w (suc (suc k)) d ≡ true =

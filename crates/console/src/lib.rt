@@ -11,13 +11,15 @@ ghost use Rattle.exclusion.specs.Operations.{rulingOut};
 ghost use Rattle.lists.specs.Operations.{items, unrankingList, setupsAfter};
 ghost use Rattle.tables.specs.Writing.{lengthOf};
 ghost use Rattle.parts.specs.Operations.{partWriting, Promise};
-ghost use Rattle.console.specs.Told.{single, foundWords, returned, told};
+ghost use Rattle.combining.specs.declared.Operation.the-variants.{Joined, Shared, Without};
+ghost use Rattle.console.specs.Told.{single, foundWords, returned, told, Combines};
+use combining::Operation;
 use diagram::Rank;
 use diagram::Setup;
 use lists::Listed;
 use ranking::Ranked;
 use ranking::Unranked;
-use writing::Written;
+use tables::Written;
 
 // The rank of a setup.
 #[no_mangle]
@@ -78,7 +80,7 @@ pub extern "C" fn setupbook_unrank_list(
     let listed = lists::unrank_list(table, ranks, sheet, setups);
     match listed {
         Listed::Items(m) => told::tell(m as u64, 0, 0, answer),
-        Listed::Refused(r) => told::tell_refusal(r, answer),
+        Listed::Refused(r) => told::tell_refusal(r, 0, answer),
     }
 }
 
@@ -100,4 +102,82 @@ pub extern "C" fn setupbook_part_write(
         Written::Bytes(m) => m as u64,
         Written::Refused(r) => rules::pack_refusal(r),
     }
+}
+
+// The setups of either of two tables, as one table: how many bytes.
+#[no_mangle]
+pub extern "C" fn setupbook_join(
+    table1: &[u8],
+    sheet1: &mut [u8],
+    table2: &[u8],
+    sheet2: &mut [u8],
+    pairs: &mut [u8],
+    out: &mut [u8],
+    answer: &mut [u64; 3],
+) -> u64
+    ensures { λ r. ⌜ Combines Joined (now (table1 .entry)) (now (sheet1 .entry)) (now (table2 .entry)) (now (sheet2 .entry)) (now (pairs .entry)) (now (out .entry))
+        r (now (answer .exit)) (now (sheet1 .exit)) (now (sheet2 .exit)) (now (pairs .exit)) (now (out .exit)) ⌝ }
+{
+    let combined = combining::combine(
+        Operation::Joined,
+        table1,
+        sheet1,
+        table2,
+        sheet2,
+        pairs,
+        out,
+    );
+    told::tell_combined(combined, answer)
+}
+
+// The setups of both.
+#[no_mangle]
+pub extern "C" fn setupbook_share(
+    table1: &[u8],
+    sheet1: &mut [u8],
+    table2: &[u8],
+    sheet2: &mut [u8],
+    pairs: &mut [u8],
+    out: &mut [u8],
+    answer: &mut [u64; 3],
+) -> u64
+    ensures { λ r. ⌜ Combines Shared (now (table1 .entry)) (now (sheet1 .entry)) (now (table2 .entry)) (now (sheet2 .entry)) (now (pairs .entry)) (now (out .entry))
+        r (now (answer .exit)) (now (sheet1 .exit)) (now (sheet2 .exit)) (now (pairs .exit)) (now (out .exit)) ⌝ }
+{
+    let combined = combining::combine(
+        Operation::Shared,
+        table1,
+        sheet1,
+        table2,
+        sheet2,
+        pairs,
+        out,
+    );
+    told::tell_combined(combined, answer)
+}
+
+// The setups of the first without those of the second.
+#[no_mangle]
+pub extern "C" fn setupbook_without(
+    table1: &[u8],
+    sheet1: &mut [u8],
+    table2: &[u8],
+    sheet2: &mut [u8],
+    pairs: &mut [u8],
+    out: &mut [u8],
+    answer: &mut [u64; 3],
+) -> u64
+    ensures { λ r. ⌜ Combines Without (now (table1 .entry)) (now (sheet1 .entry)) (now (table2 .entry)) (now (sheet2 .entry)) (now (pairs .entry)) (now (out .entry))
+        r (now (answer .exit)) (now (sheet1 .exit)) (now (sheet2 .exit)) (now (pairs .exit)) (now (out .exit)) ⌝ }
+{
+    let combined = combining::combine(
+        Operation::Without,
+        table1,
+        sheet1,
+        table2,
+        sheet2,
+        pairs,
+        out,
+    );
+    told::tell_combined(combined, answer)
 }

@@ -3,7 +3,9 @@ ghost use mathlib.Core.Path.{_≡_};
 ghost use mathlib.Core.List.{[], _∷_};
 ghost use Rattle.rules.specs.Refusals.{numberOf, placeOf};
 ghost use Rattle.exclusion.specs.Answers.{foundAs};
-ghost use Rattle.console.specs.Told.{single, foundWords, returned, told};
+ghost use Rattle.combining.specs.Answers.{combinedAs};
+ghost use Rattle.console.specs.Told.{foundWords, returned, told, toldOf};
+use combining::Combined;
 use exclusion::RuledOut;
 use rules::Refusal;
 
@@ -15,11 +17,11 @@ pub fn tell(a: u64, b: u64, c: u64, answer: &mut [u64; 3]) -> u64
     0
 }
 
-// Tells a refusal by its place: its number is returned.
-pub fn tell_refusal(refusal: Refusal, answer: &mut [u64; 3]) -> u64
-    ensures { λ r. ⌜ (r ≡ numberOf refusal) × (now (answer .exit) ≡ single (placeOf refusal)) ⌝ }
+// Tells a refusal by its place and the table that it names, or 0: its number is returned.
+pub fn tell_refusal(refusal: Refusal, table: u64, answer: &mut [u64; 3]) -> u64
+    ensures { λ r. ⌜ (r ≡ numberOf refusal) × (now (answer .exit) ≡ placeOf refusal ∷ table ∷ 0 ∷ []) ⌝ }
 {
-    *answer = [rules::place_of(refusal) as u64, 0, 0];
+    *answer = [rules::place_of(refusal) as u64, table, 0];
     rules::number_of(refusal)
 }
 
@@ -31,6 +33,16 @@ pub fn tell_found(found: RuledOut, answer: &mut [u64; 3]) -> u64
         RuledOut::Permitted => tell(0, 0, 0, answer),
         RuledOut::Empty => tell(1, 0, 0, answer),
         RuledOut::By(by) => tell(2, by.settings, by.given.0, answer),
-        RuledOut::Refused(r) => tell_refusal(r, answer),
+        RuledOut::Refused(r) => tell_refusal(r, 0, answer),
+    }
+}
+
+// Tells what two tables came to: the bytes written, or the refusal's place and the table that it is of.
+pub fn tell_combined(combined: Combined, answer: &mut [u64; 3]) -> u64
+    ensures { λ r. ⌜ (r ≡ returned (combinedAs combined .1)) × (now (answer .exit) ≡ toldOf (combinedAs combined .0) (combinedAs combined .1)) ⌝ }
+{
+    match combined {
+        Combined::Bytes(m) => tell(m as u64, 0, 0, answer),
+        Combined::Refused(table, r) => tell_refusal(r, table, answer),
     }
 }

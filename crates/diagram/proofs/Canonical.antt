@@ -1,14 +1,15 @@
 -- Two proper diagrams over the same settings that permit the same setups are the same. Assumes nothing.
-use Prim.Native.Nat.{ℕ, zero, suc, _+_, _-_, _/_, _%_, _^_, _≤_, _<_}
+use Prim.Native.Nat.{ℕ, zero, suc, _+_, _-_, _/_, _%_, _^_, _≤_, _<_, suc-le-suc}
 use mathlib.Core.Path.{_≡_, refl, sym, ap, _∙_, subst}
 use mathlib.Core.Bool.{Bool, true, false}
 use mathlib.Core.Logic.{inl, inr}
-use native.Mathlib.Nat.{le-refl, le-antisymm, mod-lt}
+use native.Mathlib.Nat.{le-refl, le-antisymm, le-of-suc-le-suc, mod-lt}
 use native.Mathlib.Omega.{arith}
 use lib.Pow.{pow-pos}
 use Rattle.diagram.specs.Format.{Words, height}
 use Rattle.diagram.specs.Meaning.{flip, holds, plain, under}
 use Rattle.diagram.specs.Ordered.{Reduced, Named, Proper}
+use Rattle.diagram.proofs.Members.{distinct-le}
 use Rattle.diagram.proofs.Paths.{side, side-node, height-le-settings}
 use Rattle.diagram.proofs.Agree.{agree-holds}
 use Rattle.diagram.proofs.Local.{under-mod}
@@ -23,10 +24,10 @@ same-height w w′ n N N′ D D′ k b l m s =
     (not-taller w′ w n N′ N D′ D N′ b k (omega arith) m l (unique w′ n N′ D′ N′ (le-refl N′)) (λ x. sym (s x)))
 
 -- a node of w′, of N′ nodes, that means the same as node k of w
-record Twin (w w′ : Words) (N′ k : ℕ) : Type 0 where
-  node : ℕ
-  inside : node ≤ N′
-  means : (x : ℕ) → plain w k x ≡ plain w′ node x
+pub record Twin (w w′ : Words) (N′ k : ℕ) : Type 0 where
+  pub node : ℕ
+  pub inside : node ≤ N′
+  pub means : (x : ℕ) → plain w k x ≡ plain w′ node x
 
 module _ (w w′ : Words) (n N N′ : ℕ) (D : Reduced w n N) (D′ : Reduced w′ n N′) (M : Named w N) (top : (x : ℕ) → plain w N x ≡ plain w′ N′ x) where
   -- the twin of a child is the child of the twin
@@ -72,6 +73,15 @@ means-inj w n N D a b l m s =
       | same q ↦ q
       | more q ↦ node-unique w n N D (a - 1) a b (omega arith) (omega arith) (omega arith) (unique w n N D (a - 1) (omega arith)) s
     ]
+
+-- where all nodes have twins, there are not more of them
+pub twins-le : (w w′ : Words) (n N N′ : ℕ) (D : Reduced w n N) → ((k : ℕ) → k ≤ N → Twin w w′ N′ k) → N ≤ N′
+twins-le w w′ n N N′ D t =
+    le-of-suc-le-suc (distinct-le (suc N) (suc N′) (λ k l. at k l .node) (λ k l. suc-le-suc (at k l .inside))
+    (λ i j l m e. means-inj w n N D i j (le-of-suc-le-suc l) (le-of-suc-le-suc m) (λ x. at i l .means x ∙ ap (λ (k : ℕ). plain w′ k x) e ∙ sym (at j m .means x))))
+  where
+    at : (k : ℕ) → k < suc N → Twin w w′ N′ k
+    at k l = t k (le-of-suc-le-suc l)
 
 module _ (w w′ : Words) (n N N′ : ℕ) (D : Reduced w n N) (D′ : Reduced w′ n N′) (M : Named w N) (top : (x : ℕ) → plain w N x ≡ plain w′ N′ x) where
   -- where the first m records agree and w has one more, w′ has one more too, and it is not above

@@ -2,8 +2,10 @@
 use Prim.Native.Nat.{ℕ, zero, suc, _+_, _-_, _/_, _%_, _^_, _≤_, _<_}
 use mathlib.Core.Path.{_≡_, refl, sym, ap, ap₂, subst, _∙_}
 use mathlib.Core.Bool.{Bool, true, false, cond}
+use native.Mathlib.Nat.{lt-of-lt-of-le, mod-lt}
 use native.Mathlib.Omega.{arith}
 use lib.Dec.{ltb}
+use lib.Pow.{pow-pos, pow-mono}
 use borrow.Author.Tests.{ltb-true, ltb-false, lt-ltb, le-ltb}
 use Rattle.diagram.specs.Format.{Words, height}
 use Rattle.diagram.specs.Meaning.{bit, branch, flip, plain, under}
@@ -13,7 +15,7 @@ use Rattle.diagram.specs.Reading.{turn, cofactor}
 use Rattle.diagram.proofs.CountLaws.{count-cong, count-add}
 use Rattle.diagram.proofs.Bits.{withBit, with-mod, with-off, with-on, pow-halves}
 use Rattle.diagram.proofs.Paths.{side, side-lower, plain-branch}
-use Rattle.diagram.proofs.Local.{under-agree, node-with}
+use Rattle.diagram.proofs.Local.{under-mod, under-agree, node-with}
 use Rattle.diagram.proofs.Edges.{turn-node, turn-inj, turn-under}
 
 -- a node of some height is not the sink
@@ -88,6 +90,27 @@ module _ (w : Words) (n N : ℕ) (D : Ordered w n N) (e h : ℕ) (inside : e / 2
       ap (countBelow (under w e)) (pow-halves h some)
       ∙ count-add (under w e) (2 ^ (h - 1)) (2 ^ (h - 1))
       ∙ sym (ap₂ _+_ (count-cong (under w (cofactor w h false e)) (under w e) (2 ^ (h - 1)) cofactor-off) (count-cong (under w (cofactor w h true e)) (λ x. under w e (2 ^ (h - 1) + x)) (2 ^ (h - 1)) cofactor-on))
+
+-- an edge that permits what edge e does with all settings above height h off, and looks at none of these
+pub record Lowered (w : Words) (N e h : ℕ) : Type 0 where
+  pub edge : ℕ
+  pub inside : edge / 2 ≤ N
+  pub low : height w (edge / 2) ≤ h
+  pub means : (x : ℕ) → under w edge x ≡ under w e (x % 2 ^ h)
+
+-- there is one: a cofactor at each height above h, d of them
+pub lowered : (w : Words) (n N : ℕ) → Ordered w n N → (h d e : ℕ) → e / 2 ≤ N → height w (e / 2) ≤ h + d → Lowered w N e h
+lowered w n N D h zero e l q = record { edge = e; inside = l; low = omega arith; means = λ x. sym (under-mod w n N D e h x l (omega arith)) }
+lowered w n N D h (suc d) e l q =
+    let H = h + suc d in
+    let a = cofactor-low w n N D e H l q (omega arith) false in
+    let b = lowered w n N D h d (cofactor w H false e) (omega arith) (omega arith) in
+    record {
+      edge = b .edge;
+      inside = b .inside;
+      low = b .low;
+      means = λ x. b .means x ∙ cofactor-off w n N D e H l q (omega arith) (x % 2 ^ h) (lt-of-lt-of-le (mod-lt x (pow-pos h)) (pow-mono (omega arith)));
+    }
 
 -- in a reduced diagram the cofactors of an edge by its own node's setting differ
 pub cofactors-differ : (w : Words) (n N : ℕ) → Reduced w n N → (e h : ℕ) → e / 2 ≤ N → h ≡ height w (e / 2) → 0 < h → cofactor w h true e ≡ cofactor w h false e → ⊥

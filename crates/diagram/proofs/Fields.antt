@@ -9,6 +9,11 @@ use Rattle.words.specs.Words.{beAt, wordAt}
 use Rattle.diagram.specs.Format.{Words, highField, middleField, lowField, settings, nodes, root, height, thenEdge, elseEdge}
 use Rattle.diagram.specs.Reading.{HasFields, IsHeader, IsRecord, recordOf}
 
+-- a word of a smaller height is smaller
+pub word-below : (a b : ℕ) → highField a < highField b → a < b
+unfolding highField
+word-below a b l = omega arith
+
 -- the height of a node that is not the sink
 pub height-node : (w : Words) (k : ℕ) → 0 < k → height w k ≡ highField (w k)
 unfolding height

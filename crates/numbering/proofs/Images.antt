@@ -67,7 +67,7 @@ unfolding renew thenEdge elseEdge
 renew-as R W W′ v s = rw (image-as W W′ (middleField (R v)) (s true), image-as W W′ (lowField (R v)) (s false))
 
 -- turned twice
-flip-twice : (f : ℕ) → (b : Bool) → flip f (flip f b) ≡ b
+pub flip-twice : (f : ℕ) → (b : Bool) → flip f (flip f b) ≡ b
 unfolding flip
 flip-twice zero b = refl
 flip-twice (suc f) b = Bool·not-not b

@@ -1,6 +1,6 @@
 -- A node's new record, and what the node is given, in the terms of the code. Assumes nothing.
 use Prim.Native.Nat.{ℕ, zero, suc, _+_, _-_, _*_, _/_, _%_, _≤_, _<_}
-use mathlib.Core.Path.{_≡_, refl, sym, ap, _∙_}
+use mathlib.Core.Path.{_≡_, refl, sym, _∙_}
 use mathlib.Core.Bool.{true, false}
 use mathlib.Core.List.{List}
 use native.Mathlib.Omega.{arith}
@@ -9,7 +9,6 @@ use Rattle.words.specs.Words.{wordAt, putWord}
 use Rattle.diagram.specs.Format.{Words, middleField, lowField, thenEdge, elseEdge}
 use Rattle.diagram.specs.Reading.{HasFields, turn, recordOf}
 use Rattle.diagram.proofs.Paths.{side-node}
-use Rattle.diagram.proofs.Edges.{turn-lt}
 use Rattle.numbering.specs.Renewal.{image, normal, renew, Renewable, StaysPlain, Readable, IsKey, Counted, same-record, new-record, given-edge, given-number, Gave, stored}
 use Rattle.numbering.specs.Numbered.{Keyed}
 use Rattle.numbering.proofs.Images.{image-small}
@@ -46,29 +45,27 @@ module _ (map : List ℕ) (z h t e : ℕ) (N : Renewable map z) (F : HasFields z
   pub else-there : (8 * (e / 2) + 8 ≤ length map) × (0 < wordAt map (e / 2))
   else-there = rw (F .low-is) (N .else-room, N .else-live)
 
--- the fields h, t and e of record z; a and b are what t and e become, d is b turned by the flag of a
-module _ (map : List ℕ) (z h t e a b d : ℕ) (N : Renewable map z) (F : HasFields z h t e)
-    (a-is : a ≡ image (wordAt map) t) (b-is : b ≡ image (wordAt map) e) (d-is : d ≡ turn (a % 2) b) where
+-- the fields h, t and e of record z; a and b are what t and e become
+module _ (map : List ℕ) (z h t e a b : ℕ) (N : Renewable map z) (F : HasFields z h t e)
+    (a-is : a ≡ image (wordAt map) t) (b-is : b ≡ image (wordAt map) e) where
   abbrev W : Words
   W = wordAt map
 
-  a-small : a < 536870912
-  a-small = rw (a-is, F .middle-is) (image-small W (middleField z) 268435456 (omega (arith, N .then-small)))
-
-  b-small : b < 536870912
-  b-small = rw (b-is, F .low-is) (image-small W (lowField z) 268435456 (omega (arith, N .else-small)))
-
   -- the fields fit a word
-  pub key-fits : (h ≤ 63) × (2 * (a / 2) < 536870912) × (d < 536870912)
-  key-fits = (F .high-fits, omega (arith, a-small), rw d-is (turn-lt (a % 2) b 268435456 b-small))
+  pub key-fits : (h ≤ 63) × (a < 536870912) × (b < 536870912)
+  key-fits = (
+    F .high-fits,
+    rw (a-is, F .middle-is) (image-small W (middleField z) 268435456 (omega (arith, N .then-small))),
+    rw (b-is, F .low-is) (image-small W (lowField z) 268435456 (omega (arith, N .else-small))),
+  )
 
   -- the word of these fields is the new record
-  renew-is : (word : ℕ) → word ≡ recordOf h (2 * (a / 2)) d → word ≡ renew W z
-  unfolding renew normal
-  renew-is word q = q ∙ rw (d-is, a-is, b-is, F .high-is, F .middle-is, F .low-is)
+  renew-is : (word : ℕ) → word ≡ normal h a b → word ≡ renew W z
+  unfolding renew
+  renew-is word q = q ∙ rw (a-is, b-is, F .high-is, F .middle-is, F .low-is)
 
   -- ... and the key of a node that is kept
-  pub key-is : (v word : ℕ) → 0 < W v → word ≡ recordOf h (2 * (a / 2)) d → IsKey W v z word (a % 2)
+  pub key-is : (v word : ℕ) → 0 < W v → word ≡ normal h a b → IsKey W v z word (a % 2)
   key-is v word live q = record {
     dead = λ k. absurd (omega arith);
     word-is = λ k. renew-is word q;
@@ -86,18 +83,19 @@ module _ (map : List ℕ) (z h t e k a b : ℕ) (N : Renewable map z) (P : Stays
   unfolding turn
   a-image = let f : t % 2 ≡ 0 = rw (F .middle-is) (P .plain) in image-is (wordAt map) t k a a k-is a-is (rw f refl)
 
-  b-turned : b ≡ turn (a % 2) b
-  unfolding turn
-  b-turned = let f : a % 2 ≡ 0 = omega (arith, a-odd) in rw f refl
-
-  even : 2 * (a / 2) ≡ a
-  even = omega (arith, a-odd)
+  -- a plain edge has no flag to take out
+  plain-normal : recordOf h a b ≡ normal h a b
+  unfolding normal turn
+  plain-normal =
+      let f : a % 2 ≡ 0 = omega (arith, a-odd) in
+      let g : 2 * (a / 2) ≡ a = omega (arith, a-odd) in
+      rw (f, g)
 
   pub plain-fits : (h ≤ 63) × (a < 536870912) × (b < 536870912)
-  plain-fits = rw even at (key-fits map z h t e a b b N F a-image b-is b-turned)
+  plain-fits = key-fits map z h t e a b N F a-image b-is
 
   pub plain-is : (word : ℕ) → word ≡ recordOf h a b → word ≡ renew (wordAt map) z
-  plain-is word q = renew-is map z h t e a b b N F a-image b-is b-turned word (q ∙ ap (λ (x : ℕ). recordOf h x b) (sym even))
+  plain-is word q = renew-is map z h t e a b N F a-image b-is word (q ∙ plain-normal)
 
 -- node v's place holds m: it is kept
 pub place-live : (map : List ℕ) (v m : ℕ) → m ≡ wordAt map v → (m ≡ 0 → ⊥) → 0 < wordAt map v

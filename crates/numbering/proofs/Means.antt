@@ -15,7 +15,7 @@ use Rattle.numbering.proofs.Images.{image-side, node-turned}
 use Rattle.numbering.proofs.Renumber.{closed-side, made-height, made-side, renumber-reduced}
 
 -- one edge for both sides
-cond-same : (b : Bool) (t e : ℕ) → t ≡ e → t ≡ cond b t e
+pub cond-same : (b : Bool) (t e : ℕ) → t ≡ e → t ≡ cond b t e
 cond-same true t e q = refl
 cond-same false t e q = q
 

@@ -19,6 +19,26 @@ pub closed-side : (R W : Words) (M : ℕ) → Closed R W M → (b : Bool) (k : �
 closed-side R W M C true = C .closed-then
 closed-side R W M C false = C .closed-else
 
+-- a list of c words that ascends from word 0 on
+module _ (L : Words) (c : ℕ) (rises : (i : ℕ) → i < c → L i < L (suc i)) where
+  -- a later word is greater
+  ascending : (i j : ℕ) → i < j → j ≤ c → L i < L j
+  ascending i zero l m = absurd (omega arith)
+  ascending i (suc j) l m =
+      let a = rises j m in
+      elim (tri i j) [ less q ↦ let b = ascending i j q (omega arith) in omega arith | same q ↦ rw q a | more q ↦ absurd (omega arith) ]
+
+  -- a lower record has a smaller number
+  pub lower-smaller : (i j : ℕ) → i ≤ c → j ≤ c → height L i < height L j → i < j
+  unfolding height highField
+  lower-smaller i zero l m q = absurd (omega arith)
+  lower-smaller zero (suc j) l m q = omega arith
+  lower-smaller (suc i) (suc j) l m q = elim (tri i j) [
+    | less r ↦ omega arith
+    | same r ↦ absurd (omega (arith, ap (λ (k : ℕ). L (suc k) / 2 ^ 58) r))
+    | more r ↦ absurd (omega (arith, ascending (suc j) (suc i) (omega arith) l))
+  ]
+
 module _ (R W L : Words) (n M c : ℕ) (Done : ℕ → Type 0) (D : Ordered R n M) (C : Closed R W M) (S : Numbered R W L M c Done) (few : c < 268435455) where
   -- what the edges of node k + 1 become
   abbrev new : Bool → ℕ → ℕ
@@ -55,24 +75,6 @@ module _ (R W L : Words) (n M c : ℕ) (Done : ℕ → Type 0) (D : Ordered R n 
 
     pub made-node : (b : Bool) → side L b (suc i) / 2 ≡ new b v / 2
     made-node b = ap (λ (z : ℕ). z / 2) (made-side b) ∙ turn-node (new true v % 2) (cond b (new true v) (new false v)) ∙ ap (λ (z : ℕ). z / 2) (image-side R W (suc v) b)
-
-  -- the records ascend
-  ascending : (i j : ℕ) → i < j → j ≤ c → L i < L j
-  ascending i zero l m = absurd (omega arith)
-  ascending i (suc j) l m =
-      let a = S .rises j m in
-      elim (tri i j) [ less q ↦ let b = ascending i j q (omega arith) in omega arith | same q ↦ rw q a | more q ↦ absurd (omega arith) ]
-
-  -- a lower record has a smaller number
-  lower : (i j : ℕ) → i ≤ c → j ≤ c → height L i < height L j → i < j
-  unfolding height highField
-  lower i zero l m q = absurd (omega arith)
-  lower zero (suc j) l m q = omega arith
-  lower (suc i) (suc j) l m q = elim (tri i j) [
-    | less r ↦ omega arith
-    | same r ↦ absurd (omega (arith, ap (λ (k : ℕ). L (suc k) / 2 ^ 58) r))
-    | more r ↦ absurd (omega (arith, ascending (suc j) (suc i) (omega arith) l))
-  ]
 
   -- an image leads to a record or to the sink
   pub image-inside : (e : ℕ) → e / 2 ≤ M → image W e / 2 ≤ c
@@ -116,7 +118,7 @@ module _ (R W L : Words) (n M c : ℕ) (Done : ℕ → Type 0) (D : Ordered R n 
       side-below : side L b (suc i) / 2 ≤ i
       side-below =
           let q : side L b (suc i) / 2 ≤ c = rw (made-node i (s .node) (s .inside) (s .makes) b) (image-inside e inside) in
-          omega (arith, lower (side L b (suc i) / 2) (suc i) q l side-lower)
+          omega (arith, lower-smaller L c (S .rises) (side L b (suc i) / 2) (suc i) q l side-lower)
 
     pub renumber-reduced : Reduced L n c
     renumber-reduced = record {

@@ -4,7 +4,7 @@ ghost use Prim.Native.Nat.{_+_, _-_, _*_, _/_, _≤_, _<_};
 ghost use lib.ListN.{length};
 ghost use Rattle.words.specs.Words.{wordAt};
 ghost use Rattle.diagram.specs.Format.{middleField, lowField};
-ghost use Rattle.numbering.specs.Renewal.{image, renew, Renewable, StaysPlain, Readable, IsKey, Counted, Gave};
+ghost use Rattle.numbering.specs.Renewal.{image, normal, renew, Renewable, StaysPlain, Readable, IsKey, Counted, Gave};
 use diagram::Edge;
 use diagram::Node;
 use diagram::Record;
@@ -71,6 +71,23 @@ pub fn renew_plain(map: &[u8], word: u64) -> u64
     renewed.word()
 }
 
+// The record of a height and edges `high` and `low`, with the flag of `high` taken out of both.
+pub fn normal_word(height: u64, high: Edge, low: Edge) -> u64
+    requires { ⌜ (height ≤ 63) × (high .value < 536870912) × (low .value < 536870912) ⌝ }
+    ensures { λ r. ⌜ r ≡ normal height (high .value) (low .value) ⌝ }
+{
+    let plain = Edge {
+        value: 2 * (high.value / 2),
+    };
+    let turned = low.turned_by(high);
+    let fields = Record {
+        height,
+        high: plain,
+        low: turned,
+    };
+    fields.word()
+}
+
 // What node v, of record `word`, becomes.
 pub fn key_of(map: &[u8], v: Node, word: u64) -> Key
     requires { ⌜ Readable (now map) (v .0) word ⌝ }
@@ -81,17 +98,9 @@ pub fn key_of(map: &[u8], v: Node, word: u64) -> Key
     }
     let fields = Record::of(word);
     let high = image_of(map, fields.high);
-    let low = image_of(map, fields.low).turned_by(high);
-    let plain = Edge {
-        value: 2 * (high.value / 2),
-    };
-    let renewed = Record {
-        height: fields.height,
-        high: plain,
-        low,
-    };
+    let low = image_of(map, fields.low);
     Key {
-        word: renewed.word(),
+        word: normal_word(fields.height, high, low),
         flag: high.value % 2,
     }
 }

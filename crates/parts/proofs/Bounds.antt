@@ -24,8 +24,9 @@ use Rattle.division.specs.Operations.{noPart}
 use Rattle.tables.specs.Table.{tableOf}
 use Rattle.tables.specs.Writing.{fitted, lengthOf}
 use Rattle.tables.proofs.TableLaws.{tableOf-some}
+use Rattle.tables.proofs.Writes.{fitted-some}
 use Rattle.parts.specs.Operations.{needed, partOf, partWriting, Promise}
-use Rattle.parts.proofs.Promised.{answer-value, answer-refusal, fitted-some}
+use Rattle.parts.proofs.Promised.{answer-value, answer-refusal}
 
 -- the refusals stay
 length-refuses : (Q : ℕ → ℕ → Type 0) (a : Answer (List ℕ)) → Refuses Q a → Refuses Q (lengthOf a)

@@ -98,3 +98,8 @@ module _ (table : List ℕ) (n N k : ℕ) (ok : Accepts table n N) (parts : 0 < 
             λ i m q. part-once k n P i j x (sym (inside i (part i) (o i m) x l) ∙ q) (s .2),
           );
     }
+
+-- so the table that an operation writes, of whatever set of setups, is divided with the same guarantee
+pub written-division : (n : ℕ) (P : ℕ → Bool) (bytes : List ℕ) → tableOf n P ≡ some bytes → (k : ℕ) → 0 < k → k ≤ 65535
+    → (calls : List Call) → ((c : Call) → List·Memᴰ c calls → Kept bytes k c) → (N : ℕ) × Division bytes n N k calls
+written-division n P bytes is k parts few calls kept = let t = tableOf-some n P bytes is in (t .0, division bytes n (t .0) k (t .2 .accepts) parts few calls kept)

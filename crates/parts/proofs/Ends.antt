@@ -13,8 +13,9 @@ use Rattle.diagram.proofs.CountLaws.{count-le}
 use Rattle.diagram.proofs.Select.{select-some}
 use Rattle.division.specs.Span.{within}
 use Rattle.division.proofs.Within.{within-none, within-bounds}
-use Rattle.writing.specs.Inner.{between, Writes}
-use Rattle.writing.proofs.Writing.{writes-same}
+use Rattle.tables.specs.Inner.{Writes}
+use Rattle.tables.proofs.Writes.{writes-same}
+use Rattle.writing.specs.Inner.{between}
 
 -- z setups of n settings that P permits, from rank b on
 module _ (n : ℕ) (P : ℕ → Bool) (b z : ℕ) where

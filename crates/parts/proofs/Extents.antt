@@ -30,7 +30,7 @@ use Rattle.division.proofs.Parts.{part-inside}
 use Rattle.division.proofs.Sharing.{some-part}
 use Rattle.tables.specs.Table.{tableOf}
 use Rattle.tables.specs.Writing.{fitted, lengthOf, outAfter}
-use Rattle.writing.specs.Inner.{Writes}
+use Rattle.tables.specs.Inner.{Writes}
 use Rattle.parts.specs.Operations.{needed, partOf, partWriting, Promise}
 use Rattle.parts.proofs.Lending.{past-more}
 

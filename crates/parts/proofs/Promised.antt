@@ -3,7 +3,7 @@ use Prim.Native.Nat.{ℕ, _/_, _≤_, _<_}
 use mathlib.Core.Path.{_≡_, refl, sym, ap, ap₂, _∙_}
 use mathlib.Core.Bool.{Bool, true, false, cond}
 use mathlib.Core.List.{List}
-use mathlib.Core.Option.{Option, none, some}
+use mathlib.Core.Option.{some}
 use native.Mathlib.Omega.{arith}
 use lib.Dec.{leb, ltb}
 use lib.ListN.{length}
@@ -20,7 +20,8 @@ use Rattle.checking.specs.Operations.{checkingFor}
 use Rattle.division.specs.Span.{inPart}
 use Rattle.division.proofs.Sharing.{none-index}
 use Rattle.tables.specs.Table.{tableOf}
-use Rattle.tables.specs.Writing.{fitted, lengthOf, outAfter, frontOf}
+use Rattle.tables.specs.Writing.{lengthOf, outAfter, frontOf}
+use Rattle.tables.proofs.Writes.{fitted-some}
 use Rattle.tables.proofs.WritingLaws.{front-written}
 use Rattle.parts.specs.Operations.{needed, partOf, partWriting, Promise}
 use Rattle.parts.specs.Calls.{Call, Kept}
@@ -40,12 +41,6 @@ pub answer-refusal : (a : Answer (List ℕ)) (number place : ℕ) → lengthOf a
 unfolding lengthOf
 answer-refusal (value b) number place e = absurd (refused-not (sym e))
 answer-refusal (refusal r p) number place e = let i : r ≡ number = cc in let j : p ≡ place = cc in rw (i, j)
-
--- what is fitted into the room is what there was
-pub fitted-some : (room : ℕ) (o : Option (List ℕ)) (bytes : List ℕ) → fitted room o ≡ value bytes → o ≡ some bytes
-unfolding fitted
-fitted-some room none bytes e = absurd (refused-not e)
-fitted-some room (some b) bytes e = ap some (value-inj (passed (ltb room (length b)) refused-not e .1))
 
 module _ (table : List ℕ) (n N k : ℕ) (ok : Accepts table n N) (parts : 0 < k) (few : k ≤ 65535) where
   A : Accepted table n N

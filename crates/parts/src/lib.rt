@@ -9,15 +9,15 @@ ghost use Rattle.counting.specs.Inner.{Opens, Countable};
 ghost use Rattle.checking.specs.Inner.{Past};
 ghost use Rattle.division.specs.Span.{within};
 ghost use Rattle.tables.specs.Writing.{lengthOf, outAfter};
-ghost use Rattle.writing.specs.Answers.{writtenAs};
-ghost use Rattle.writing.specs.Inner.{Writes};
+ghost use Rattle.tables.specs.Answers.{writtenAs};
+ghost use Rattle.tables.specs.Inner.{Writes};
 ghost use Rattle.parts.specs.Operations.{needed, partOf, Promise};
 use checking::Checked;
 use diagram::Edge;
 use diagram::Rank;
 use division::Extent;
 use division::Spanned;
-use writing::Written;
+use tables::Written;
 
 // Writes the table of a part, by its extent. The sheet's places 0 to N hold the shares; those behind them are for the new numbers.
 fn write_extent(

@@ -29,6 +29,8 @@ pub enum Refusal {
     ItemRange(Item),
     Falls(Item),
     ShortList,
+    UnequalSettings,
+    TooManyPairs,
 }
 
 // The number of a refusal.
@@ -55,6 +57,8 @@ pub fn number_of(refusal: Refusal) -> u64
         Refusal::ItemRange(_) => 14,
         Refusal::Falls(_) => 17,
         Refusal::ShortList => 18,
+        Refusal::UnequalSettings => 19,
+        Refusal::TooManyPairs => 20,
     }
 }
 
@@ -82,6 +86,8 @@ pub fn place_of(refusal: Refusal) -> usize
         Refusal::ItemRange(i) => i.0,
         Refusal::Falls(i) => i.0,
         Refusal::ShortList => 0,
+        Refusal::UnequalSettings => 0,
+        Refusal::TooManyPairs => 0,
     }
 }
 

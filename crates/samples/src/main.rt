@@ -3,6 +3,8 @@ use checking::Checked;
 use checking::Counted;
 use checking::Shape;
 use checking::Tested;
+use combining::Combined;
+use combining::Operation;
 use diagram::Rank;
 use diagram::Setup;
 use division::Spanned;
@@ -14,7 +16,7 @@ use programs::say_number;
 use programs::say_refusal;
 use ranking::Ranked;
 use ranking::Unranked;
-use writing::Written;
+use tables::Written;
 
 // Table A.
 const A: [u64; 4] = [
@@ -336,6 +338,38 @@ fn part_of(k: u64, j: u64) {
     say(b"\n");
 }
 
+// What the operation makes of A and another table, of four words at most, with so many bytes of pair sheet, 320 at most.
+fn combined(name: &[u8], op: Operation, other: &[u8], lent: usize) {
+    say(name);
+    say(b":");
+    let a = bytes_of(&A);
+    let mut sheet = [0u8; 32];
+    let mut second = [0u8; 32];
+    let mut memory = [0u8; 320];
+    let mut out = [0u8; 64];
+    let pairs = tables::front(&mut memory, lent);
+    let combined = combining::combine(
+        op,
+        &a,
+        &mut sheet,
+        other,
+        &mut second,
+        &mut pairs[..],
+        &mut out,
+    );
+    match combined {
+        Combined::Bytes(m) => {
+            let table = tables::front(&mut out, m);
+            say_words(&table[..]);
+        }
+        Combined::Refused(table, r) => {
+            say_refusal(b" ", r);
+            say_number(b", table ", table);
+        }
+    }
+    say(b"\n");
+}
+
 fn numbers() {
     rank_of(7);
     rank_of(5);
@@ -393,6 +427,33 @@ fn divisions() {
     part_of(65536, 0);
 }
 
+fn two_tables() {
+    let a = bytes_of(&A);
+    combined(b"A joined with A", Operation::Joined, &a, 192);
+    combined(b"A shared with A", Operation::Shared, &a, 192);
+    combined(b"A without A", Operation::Without, &a, 192);
+    combined(b"A joined with A, 191 bytes", Operation::Joined, &a, 191);
+    let fives = bytes_of(&[0x0C00000060000007, A[1], A[2], A[3]]);
+    combined(b"A joined with the others", Operation::Joined, &fives, 320);
+    combined(b"A without the others", Operation::Without, &fives, 320);
+    let last = bytes_of(&[0x0C00000020000002, A[1]]);
+    combined(
+        b"A shared with the odd ones",
+        Operation::Shared,
+        &last[0..16],
+        320,
+    );
+    combined(
+        b"A without the odd ones",
+        Operation::Without,
+        &last[0..16],
+        320,
+    );
+    let two = bytes_of(&[0x0800000020000002, A[1]]);
+    combined(b"A with n = 2", Operation::Shared, &two[0..16], 320);
+    combined(b"A with 15 bytes", Operation::Shared, &two[0..15], 320);
+}
+
 fn main() {
     refused_tables();
     accepted_tables();
@@ -402,4 +463,5 @@ fn main() {
     setups_ruled_out();
     lists_of_numbers();
     divisions();
+    two_tables();
 }

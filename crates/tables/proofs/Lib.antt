@@ -2,3 +2,4 @@
 pub mod TableFor
 pub mod TableLaws
 pub mod WritingLaws
+pub mod Writes

@@ -71,3 +71,11 @@ module _ (s : List ℕ) (k v : ℕ) (long : 8 * k + 8 ≤ length s) where
   -- both at once
   pub put-updated : v < 2 ^ 64 → Updated (wordAt s) (wordAt (putWord s k v)) k v
   put-updated l = record { here = word-same l; other = word-other }
+
+-- a store, by what it left
+module _ (s t : List ℕ) (k v : ℕ) (is : t ≡ putWord s k v) (long : 8 * k + 8 ≤ length s) where
+  pub stored : v < 2 ^ 64 → Updated (wordAt s) (wordAt t) k v
+  stored l = subst (λ (x : List ℕ). Updated (wordAt s) (wordAt x) k v) (sym is) (put-updated s k v long l)
+
+  pub stored-long : length t ≡ length s
+  stored-long = ap length is ∙ length-put s k v long

@@ -1,5 +1,4 @@
 -- The laws of writing a table between two bounds.
 pub mod Builds
-pub mod Writing
 pub mod Nothing
 pub mod Outcomes

@@ -12,8 +12,8 @@ use Rattle.diagram.specs.Answer.{value, refusal}
 use Rattle.diagram.specs.Reading.{recordOf}
 use Rattle.tables.specs.Writing.{fitted}
 use Rattle.tables.proofs.WritingLaws.{empty-table}
-use Rattle.writing.specs.Inner.{Writes}
-use Rattle.writing.proofs.Writing.{writes-refused, writes-bytes}
+use Rattle.tables.specs.Inner.{Writes}
+use Rattle.tables.proofs.Writes.{writes-refused, writes-bytes}
 
 module _ (n : ℕ) (few : n ≤ 63) (out : List ℕ) where
   abbrev none : ℕ → Bool

@@ -14,8 +14,9 @@ use Rattle.numbering.specs.Renewal.{image}
 use Rattle.numbering.specs.Numbered.{Finished}
 use Rattle.emitting.specs.Emitting.{HoldsRecords}
 use Rattle.emitting.proofs.Numbers.{records-all}
-use Rattle.writing.specs.Inner.{between, Writes, IsBuilt}
-use Rattle.writing.proofs.Writing.{writes-refused, writes-bytes}
+use Rattle.tables.specs.Inner.{Writes}
+use Rattle.writing.specs.Inner.{between, IsBuilt}
+use Rattle.tables.proofs.Writes.{writes-refused, writes-bytes}
 
 module _ (w : Words) (n N r lo hi : ℕ) (R W : Words) (c e : ℕ) (B : IsBuilt w n N r lo hi R W c e) (out : List ℕ) where
   abbrev P : ℕ → Bool

@@ -1,25 +1,15 @@
--- Writing the table of a set of setups: for inner contracts only. Assumes nothing.
+-- The setups between two bounds, and the diagram of them that is built: for inner contracts only. Assumes nothing.
 use Prim.Native.Nat.{ℕ, _+_, _/_, _^_, _≤_, _<_}
 use mathlib.Core.Path.{_≡_}
 use mathlib.Core.Bool.{Bool, _&&_}
-use mathlib.Core.List.{List}
 use lib.Dec.{leb}
-use lib.ListN.{length}
 use Rattle.diagram.specs.Format.{Words}
 use Rattle.diagram.specs.Meaning.{under}
-use Rattle.diagram.specs.Answer.{Answer}
-use Rattle.tables.specs.Table.{tableOf}
-use Rattle.tables.specs.Writing.{fitted, lengthOf, outAfter}
 use Rattle.numbering.specs.Numbered.{PlainTable, Finished, Keyed}
 
 -- the setups from lo to hi that P permits
 unfoldable pub between : (ℕ → Bool) → ℕ → ℕ → ℕ → Bool
 between P lo hi x = P x && leb lo x && leb x hi
-
--- the table of the setups of n settings that pass P, written into the out memory or refused
-pub record Writes (n : ℕ) (P : ℕ → Bool) (out : List ℕ) (answer : Answer ℕ) (out′ : List ℕ) : Type 0 where
-  pub answers : answer ≡ lengthOf (fitted (length out) (tableOf n P))
-  pub leaves : out′ ≡ outAfter (fitted (length out) (tableOf n P)) out
 
 -- the words R of a table w, of N nodes, and of two cuts are numbered by the map W, with c records: below edge e they permit what the table permits from lo to hi below edge r
 pub record IsBuilt (w : Words) (n N r lo hi : ℕ) (R W : Words) (c e : ℕ) : Type 0 where

@@ -1,3 +1,2 @@
 -- The table of the setups between two bounds, written.
-pub mod Answers
 pub mod Inner

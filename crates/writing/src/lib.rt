@@ -7,18 +7,14 @@ ghost use Rattle.words.specs.Words.{wordAt};
 ghost use Rattle.diagram.specs.Meaning.{under};
 ghost use Rattle.diagram.specs.Ordered.{Reduced};
 ghost use Rattle.cutting.specs.Cut.{extended, Room};
-ghost use Rattle.writing.specs.Answers.{writtenAs};
-ghost use Rattle.writing.specs.Inner.{between, Writes, IsBuilt};
+ghost use Rattle.tables.specs.Answers.{writtenAs};
+ghost use Rattle.tables.specs.Inner.{Writes};
+ghost use Rattle.writing.specs.Inner.{between, IsBuilt};
 use diagram::Edge;
 use diagram::Header;
 use diagram::Setup;
 use rules::Refusal;
-
-// How many bytes were written, or why none were.
-pub enum Written {
-    Bytes(usize),
-    Refused(Refusal),
-}
+use tables::Written;
 
 // A diagram that is numbered anew: how many records it has, and its root's edge in the old numbers.
 struct Built {

@@ -2,7 +2,7 @@
 use mathlib.Core.Path.{sym, ap, _∙_}
 use borrow.Author.Needs.{needs}
 use Rattle.rules.proofs.Packing.{packed-value, packed-refusal}
-use Rattle.writing.specs.Answers.{writtenAs}
+use Rattle.tables.specs.Answers.{writtenAs}
 use Rattle.parts.proofs.Promised.{as-defined}
 use Rattle.parts.proofs.Bounds.{part-place}
 use Rattle.console.proofs.setupbook_part_write.Statement.{statement}

@@ -23,21 +23,19 @@ image-of-requires c κs = then-there _ _ _ _ _ (renewable (c .before)) (c .of .e
 image-of-requires-2 : tie.Need-image-of-requires-2
 image-of-requires-2 c κs = let of = c .before in else-there _ _ _ _ _ (renewable (of .before)) (of .of .ensures)
 
-word-requires : tie.Need-word-requires
-word-requires c κs =
-    let image-of2 = c .before .before in
-    let of = image-of2 .before .before in
-    key-fits _ _ _ _ _ _ _ _ (renewable (of .before)) (of .of .ensures) (image-of2 .before .image-of .ensures) (image-of2 .image-of2 .ensures) (c .before .turned-by .ensures)
+normal-word-requires : tie.Need-normal-word-requires
+normal-word-requires c κs =
+    let image-of = c .before in
+    let of = image-of .before in
+    key-fits _ _ _ _ _ _ _ (renewable (of .before)) (of .of .ensures) (image-of .image-of .ensures) (c .image-of2 .ensures)
 
 returns-2 : tie.Need-returns-2
 returns-2 c =
-    let image-of2 = c .before .before .before .before in
+    let image-of2 = c .before .before in
     let of = image-of2 .before .before in
-    key-is _ _ _ _ _ _ _ _ (renewable (of .before)) (of .of .ensures) (image-of2 .before .image-of .ensures) (image-of2 .image-of2 .ensures)
-    (c .before .before .before .turned-by .ensures) _ _ (live (of .before)) (c .before .word .ensures)
+    key-is _ _ _ _ _ _ _ (renewable (of .before)) (of .of .ensures) (image-of2 .before .image-of .ensures) (image-of2 .image-of2 .ensures) _ _ (live (of .before))
+    (c .before .normal-word .ensures)
 
 pub key-of-spec : {M : Type 1} → statement M
 key-of-spec =
-    tie.close
-    (tie.spec (λ c κs. search needs) returns (λ c κs. search needs) image-of-requires image-of-requires-2
-    (λ c κs. search needs) (λ c. search needs) word-requires returns-2)
+    tie.close (tie.spec (λ c κs. search needs) returns (λ c κs. search needs) image-of-requires image-of-requires-2 normal-word-requires returns-2)

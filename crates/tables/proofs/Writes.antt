@@ -1,15 +1,22 @@
--- Writing the table of a set: refused or written, and by any other test that agrees. Assumes nothing.
+-- Writing the table of a set: refused or written, by any other test that agrees, and where 16 is answered. Assumes nothing.
 use Prim.Native.Nat.{ℕ, _^_, _<_}
-use mathlib.Core.Path.{_≡_, refl, sym, _∙_}
-use mathlib.Core.Bool.{Bool}
+use mathlib.Core.Path.{_≡_, refl, sym, ap, _∙_}
+use mathlib.Core.Logic.{_↔_}
+use mathlib.Core.Bool.{Bool, true, false, cond}
 use mathlib.Core.List.{List, _++_}
 use mathlib.Core.Option.{Option, none, some}
+use native.Mathlib.Omega.{arith}
+use lib.Dec.{ltb}
 use lib.ListN.{length, drop}
+use Rattle.words.proofs.Cases.{passed}
+use Rattle.words.proofs.Bytes.{Bytes}
 use Rattle.diagram.specs.Answer.{Answer, value, refusal}
+use Rattle.diagram.proofs.AnswerLaws.{refused-not, value-inj}
 use Rattle.tables.specs.Table.{tableOf}
 use Rattle.tables.specs.Writing.{fitted, lengthOf, outAfter}
+use Rattle.tables.proofs.TableFor.{TableFor}
 use Rattle.tables.proofs.TableLaws.{tableOf-is, tableOf-some}
-use Rattle.writing.specs.Inner.{Writes}
+use Rattle.tables.specs.Inner.{Writes}
 
 module _ (n : ℕ) (P : ℕ → Bool) (out : List ℕ) where
   -- refused: the out memory stays
@@ -39,3 +46,22 @@ same-table n P Q same = go (tableOf n P) refl (tableOf n Q) refl
 -- so they are written alike
 pub writes-same : (n : ℕ) (P Q : ℕ → Bool) → ((x : ℕ) → x < 2 ^ n → P x ≡ Q x) → {out out′ : List ℕ} {answer : Answer ℕ} → Writes n P out answer out′ → Writes n Q out answer out′
 writes-same n P Q same w = let e = same-table n P Q same in record { answers = rw (← e) (w .answers); leaves = rw (← e) (w .leaves) }
+
+-- what is fitted into the room is what there was
+pub fitted-some : (room : ℕ) (o : Option (List ℕ)) (bytes : List ℕ) → fitted room o ≡ value bytes → o ≡ some bytes
+unfolding fitted
+fitted-some room none bytes e = absurd (refused-not e)
+fitted-some room (some b) bytes e = ap some (value-inj (passed (ltb room (length b)) refused-not e .1))
+
+-- 16 is answered exactly where no accepted table permits the set
+pub sixteen : (room n : ℕ) (P : ℕ → Bool) → (fitted room (tableOf n P) ≡ refusal 16 0) ↔ ((t : List ℕ) (N : ℕ) → Bytes t → TableFor n P t N → ⊥)
+unfolding fitted
+sixteen room n P = (λ e t N b T. go t (ltb room (length t)) (sym (ap (fitted room) (tableOf-is n P t N b T)) ∙ e), then-none (tableOf n P) refl)
+  where
+    go : (t : List ℕ) (c : Bool) → cond c (refusal 11 0) (value t) ≡ refusal 16 0 → ⊥
+    go t true q = let z : _≡_ {A = ℕ} 11 16 = cc in omega arith
+    go t false q = refused-not (sym q)
+
+    then-none : (o : Option (List ℕ)) → tableOf n P ≡ o → ((t : List ℕ) (N : ℕ) → Bytes t → TableFor n P t N → ⊥) → fitted room (tableOf n P) ≡ refusal 16 0
+    then-none none e f = rw e
+    then-none (some t) e f = let s = tableOf-some n P t e in absurd (f t (s .0) (s .1) (s .2))

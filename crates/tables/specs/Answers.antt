@@ -2,8 +2,8 @@
 use Prim.Native.Nat.{ℕ}
 use Rattle.diagram.specs.Answer.{Answer, value, refusal}
 use Rattle.rules.specs.Refusals.{numberOf, placeOf}
-use Rattle.writing.specs.declared.Written.{Written}
-use Rattle.writing.specs.declared.Written.the-variants.{Bytes, Refused}
+use Rattle.tables.specs.declared.Written.{Written}
+use Rattle.tables.specs.declared.Written.the-variants.{Bytes, Refused}
 
 -- the number of bytes written
 abbrev pub writtenAs : Written → Answer ℕ

@@ -1,0 +1,6 @@
+-- The laws of making two tables into one.
+pub mod Readying
+pub mod Nodes
+pub mod Outcomes
+pub mod Promised
+pub mod Theorems

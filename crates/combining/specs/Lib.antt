@@ -1,0 +1,5 @@
+-- Two tables made into one.
+pub mod Combination
+pub mod Operations
+pub mod Answers
+pub mod Inner

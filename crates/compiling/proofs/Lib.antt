@@ -1,0 +1,3 @@
+-- The laws of making a table of nodes.
+pub mod Copying
+pub mod Outcomes

@@ -1,0 +1,2 @@
+-- A table made of nodes in a sheet.
+pub mod Inner
