@@ -52,12 +52,15 @@ static void time_workloads(const struct results *r, double (*micros)[OPERATIONS]
 }
 
 /* One pass over the rows of two tables. */
-static void time_rows(const struct results *r, double (*micros)[CONDITIONS][SIDES], double (*buddy)[BUDDY])
+static void time_rows(const struct results *r, double (*micros)[CONDITIONS][SIDES])
 {
-    for (int i = 0; i < ROWS; i++) {
+    for (int i = 0; i < ROWS; i++)
         for (int c = 0; c < CONDITIONS; c++) time_two(&r->row[i], c, TWO_SECONDS, micros[i][c]);
-        time_buddy_two(&r->row[i], BUDDY_TWO_SECONDS, buddy[i]);
-    }
+}
+
+static void time_rows_buddy(const struct results *r, enum sizing sizing, double (*buddy)[BUDDY])
+{
+    for (int i = 0; i < ROWS; i++) time_buddy_two(&r->row[i], sizing, BUDDY_TWO_SECONDS, buddy[i]);
 }
 
 /* One pass over the tables of the plot. */
@@ -105,17 +108,18 @@ static void time_all(struct results *r, struct point *points)
 {
     static double micros[PASSES][WORKLOADS][OPERATIONS][CONDITIONS][SIDES];
     double buddy[PASSES][WORKLOADS][BUDDY], lines[PASSES][POINTS * LINES], line[POINTS * LINES];
-    double row_micros[PASSES][ROWS][CONDITIONS][SIDES], row_buddy[PASSES][ROWS][BUDDY];
+    double row_micros[PASSES][ROWS][CONDITIONS][SIDES], row_buddy[SIZINGS][PASSES][ROWS][BUDDY];
     for (int p = 0; p < PASSES; p++) {
         time_workloads(r, micros[p], buddy[p]);
-        time_rows(r, row_micros[p], row_buddy[p]);
+        time_rows(r, row_micros[p]);
+        for (int z = 0; z < SIZINGS; z++) time_rows_buddy(r, z, row_buddy[z][p]);
         time_points(points);
         for (int i = 0; i < POINTS * LINES; i++) lines[p][i] = points[i / LINES].micros[i % LINES];
     }
     quietest(&micros[0][0][0][0][0], WORKLOADS * OPERATIONS * CONDITIONS, &r->micros[0][0][0][0]);
     quietest(&row_micros[0][0][0][0], ROWS * CONDITIONS, &r->row_micros[0][0][0]);
     best_for_buddy(buddy[0], WORKLOADS, r->buddy);
-    best_for_buddy(row_buddy[0], ROWS, r->row_buddy);
+    for (int z = 0; z < SIZINGS; z++) best_for_buddy(row_buddy[z][0], ROWS, r->row_buddy[z]);
     quietest(&lines[0][0], POINTS * LINES / SIDES, line);
     for (int i = 0; i < POINTS * LINES; i++) points[i / LINES].micros[i % LINES] = line[i];
 }

@@ -14,7 +14,7 @@ struct results {
     struct two row[ROWS];
     double row_micros[ROWS][CONDITIONS][SIDES];
     double row_instructions[ROWS][SIDES];
-    double row_buddy[ROWS][BUDDY];
+    double row_buddy[SIZINGS][ROWS][BUDDY];
 };
 
 void print_report(const struct results *r);
