@@ -104,7 +104,25 @@ pub extern "C" fn setupbook_part_write(
     }
 }
 
-// The setups of either of two tables, as one table: how many bytes.
+// Two tables made into one by an operation: how many bytes.
+fn combine(
+    op: Operation,
+    table1: &[u8],
+    sheet1: &mut [u8],
+    table2: &[u8],
+    sheet2: &mut [u8],
+    pairs: &mut [u8],
+    out: &mut [u8],
+    answer: &mut [u64; 3],
+) -> u64
+    ensures { λ r. ⌜ Combines op (now (table1 .entry)) (now (sheet1 .entry)) (now (table2 .entry)) (now (sheet2 .entry)) (now (pairs .entry)) (now (out .entry))
+        r (now (answer .exit)) (now (sheet1 .exit)) (now (sheet2 .exit)) (now (pairs .exit)) (now (out .exit)) ⌝ }
+{
+    let combined = combining::combine(op, table1, sheet1, table2, sheet2, pairs, out);
+    told::tell_combined(combined, answer)
+}
+
+// The setups of either of two tables.
 #[no_mangle]
 pub extern "C" fn setupbook_join(
     table1: &[u8],
@@ -118,7 +136,7 @@ pub extern "C" fn setupbook_join(
     ensures { λ r. ⌜ Combines Joined (now (table1 .entry)) (now (sheet1 .entry)) (now (table2 .entry)) (now (sheet2 .entry)) (now (pairs .entry)) (now (out .entry))
         r (now (answer .exit)) (now (sheet1 .exit)) (now (sheet2 .exit)) (now (pairs .exit)) (now (out .exit)) ⌝ }
 {
-    let combined = combining::combine(
+    combine(
         Operation::Joined,
         table1,
         sheet1,
@@ -126,8 +144,8 @@ pub extern "C" fn setupbook_join(
         sheet2,
         pairs,
         out,
-    );
-    told::tell_combined(combined, answer)
+        answer,
+    )
 }
 
 // The setups of both.
@@ -144,7 +162,7 @@ pub extern "C" fn setupbook_share(
     ensures { λ r. ⌜ Combines Shared (now (table1 .entry)) (now (sheet1 .entry)) (now (table2 .entry)) (now (sheet2 .entry)) (now (pairs .entry)) (now (out .entry))
         r (now (answer .exit)) (now (sheet1 .exit)) (now (sheet2 .exit)) (now (pairs .exit)) (now (out .exit)) ⌝ }
 {
-    let combined = combining::combine(
+    combine(
         Operation::Shared,
         table1,
         sheet1,
@@ -152,8 +170,8 @@ pub extern "C" fn setupbook_share(
         sheet2,
         pairs,
         out,
-    );
-    told::tell_combined(combined, answer)
+        answer,
+    )
 }
 
 // The setups of the first without those of the second.
@@ -170,7 +188,7 @@ pub extern "C" fn setupbook_without(
     ensures { λ r. ⌜ Combines Without (now (table1 .entry)) (now (sheet1 .entry)) (now (table2 .entry)) (now (sheet2 .entry)) (now (pairs .entry)) (now (out .entry))
         r (now (answer .exit)) (now (sheet1 .exit)) (now (sheet2 .exit)) (now (pairs .exit)) (now (out .exit)) ⌝ }
 {
-    let combined = combining::combine(
+    combine(
         Operation::Without,
         table1,
         sheet1,
@@ -178,6 +196,6 @@ pub extern "C" fn setupbook_without(
         sheet2,
         pairs,
         out,
-    );
-    told::tell_combined(combined, answer)
+        answer,
+    )
 }
