@@ -52,10 +52,12 @@ static void time_workloads(const struct results *r, double (*micros)[OPERATIONS]
 }
 
 /* One pass over the rows of two tables. */
-static void time_rows(const struct results *r, double (*micros)[CONDITIONS][SIDES])
+static void time_rows(const struct results *r, double (*micros)[CONDITIONS][SIDES], double (*full)[SIDES])
 {
-    for (int i = 0; i < ROWS; i++)
-        for (int c = 0; c < CONDITIONS; c++) time_two(&r->row[i], c, TWO_SECONDS, micros[i][c]);
+    for (int i = 0; i < ROWS; i++) {
+        for (int c = 0; c < CONDITIONS; c++) time_two(&r->row[i], c, TWICE, TWO_SECONDS, micros[i][c]);
+        time_two(&r->row[i], WARM, JUST_ENOUGH, TWO_SECONDS, full[i]);
+    }
 }
 
 static void time_rows_buddy(const struct results *r, enum sizing sizing, double (*buddy)[BUDDY])
@@ -109,15 +111,17 @@ static void time_all(struct results *r, struct point *points)
     static double micros[PASSES][WORKLOADS][OPERATIONS][CONDITIONS][SIDES];
     double buddy[PASSES][WORKLOADS][BUDDY], lines[PASSES][POINTS * LINES], line[POINTS * LINES];
     double row_micros[PASSES][ROWS][CONDITIONS][SIDES], row_buddy[SIZINGS][PASSES][ROWS][BUDDY];
+    double row_full[PASSES][ROWS][SIDES];
     for (int p = 0; p < PASSES; p++) {
         time_workloads(r, micros[p], buddy[p]);
-        time_rows(r, row_micros[p]);
+        time_rows(r, row_micros[p], row_full[p]);
         for (int z = 0; z < SIZINGS; z++) time_rows_buddy(r, z, row_buddy[z][p]);
         time_points(points);
         for (int i = 0; i < POINTS * LINES; i++) lines[p][i] = points[i / LINES].micros[i % LINES];
     }
     quietest(&micros[0][0][0][0][0], WORKLOADS * OPERATIONS * CONDITIONS, &r->micros[0][0][0][0]);
     quietest(&row_micros[0][0][0][0], ROWS * CONDITIONS, &r->row_micros[0][0][0]);
+    quietest(&row_full[0][0][0], ROWS, &r->row_full[0][0]);
     best_for_buddy(buddy[0], WORKLOADS, r->buddy);
     for (int z = 0; z < SIZINGS; z++) best_for_buddy(row_buddy[z][0], ROWS, r->row_buddy[z]);
     quietest(&lines[0][0], POINTS * LINES / SIDES, line);

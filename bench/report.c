@@ -142,6 +142,20 @@ static void print_two_medians(const struct results *r)
     printf("\n");
 }
 
+static void print_two_full(const struct results *r)
+{
+    printf("With a pair sheet for just the pairs, warm: the hash table is full in the end, and its last searches are long. (Plain C\n"
+           "has two slots for each pair there.)\n\n"
+           "| tables                   | operation |     ours | plain C | ours, of that with twice the room |\n"
+           "|--------------------------|-----------|---------:|--------:|----------------------------------:|\n");
+    for (int i = 0; i < ROWS; i++) {
+        const double *f = r->row_full[i];
+        printf("| %-24s | %-9s | %8.1f | %7.1f | %33.2f |\n", r->row[i].name, operation_name(r->row[i].op), f[OURS], f[PLAIN],
+               f[OURS] / r->row_micros[i][WARM][OURS]);
+    }
+    printf("\n");
+}
+
 static void print_two_instructions(const struct results *r)
 {
     printf("Instructions a call, and a pair:\n\n"
@@ -204,6 +218,7 @@ void print_report(const struct results *r)
     print_instructions(r);
     print_buddy(r);
     print_two_medians(r);
+    print_two_full(r);
     print_two_instructions(r);
     print_two_buddy(r);
     print_bars(r);

@@ -13,6 +13,7 @@ struct results {
     double buddy[WORKLOADS][BUDDY];
     struct two row[ROWS];
     double row_micros[ROWS][CONDITIONS][SIDES];
+    double row_full[ROWS][SIDES]; /* warm, with a pair sheet for just the pairs */
     double row_instructions[ROWS][SIDES];
     double row_buddy[SIZINGS][ROWS][BUDDY];
 };

@@ -114,10 +114,11 @@ void time_both(const struct table *t, enum operation op, enum condition c, doubl
     give_back(&m);
 }
 
-void time_two(const struct two *w, enum condition c, double seconds, double *micros)
+void time_two(const struct two *w, enum condition c, enum room room, double seconds, double *micros)
 {
     static const struct numbers none[2 * DRAWN];
     struct lent m = lend_two(w);
+    if (room == JUST_ENOUGH) m.pairs_len = 32 * w->pairs;
     time_lent(w->op, c, &m, none, 1, seconds, micros);
     give_back(&m);
 }

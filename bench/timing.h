@@ -15,8 +15,11 @@ double median(double *values, unsigned count);
 double reading(enum side side, enum operation op, enum condition c, const struct lent *m, const struct numbers *x,
                unsigned batch);
 
+/* How many pairs the pair sheet holds: twice those that there are, or just these. */
+enum room { TWICE, JUST_ENOUGH };
+
 /* Medians of both sides in microseconds a call, within about this many seconds. */
 void time_both(const struct table *t, enum operation op, enum condition c, double seconds, double *micros);
-void time_two(const struct two *w, enum condition c, double seconds, double *micros);
+void time_two(const struct two *w, enum condition c, enum room room, double seconds, double *micros);
 
 #endif

@@ -1,14 +1,14 @@
 -- What the request asks of two tables made into one. Assumes nothing.
 use Prim.Native.Nat.{ℕ, _+_, _*_, _/_, _^_, _≤_, _<_}
-use mathlib.Core.Path.{_≡_, refl, ap, _∙_}
-use mathlib.Core.Logic.{_↔_}
+use mathlib.Core.Path.{_≡_, refl, sym, ap, _∙_}
+use mathlib.Core.Logic.{_↔_, ⊎-elim}
 use mathlib.Core.Bool.{Bool, true, false, cond, not, _&&_, _||_}
 use mathlib.Core.List.{List}
 use mathlib.Core.Option.{some}
 use native.Mathlib.Omega.{arith}
 use lib.Dec.{eqb, ltb}
 use lib.ListN.{length, drop}
-use borrow.Author.Tests.{eq-eqb, eqb-true, lt-ltb, le-ltb, not-false}
+use borrow.Author.Tests.{eq-eqb, eqb-true, ltb-true, lt-ltb, le-ltb, not-false}
 use Rattle.words.specs.Words.{wordAt, wordsOver}
 use Rattle.words.proofs.Cases.{passed}
 use Rattle.words.proofs.Laws.{words-read}
@@ -27,7 +27,7 @@ use Rattle.tables.specs.Table.{tableOf}
 use Rattle.tables.specs.Writing.{fitted, lengthOf, outAfter, frontOf}
 use Rattle.tables.proofs.TableFor.{TableFor}
 use Rattle.tables.proofs.TableLaws.{tableOf-some}
-use Rattle.tables.proofs.Writes.{fitted-some, sixteen}
+use Rattle.tables.proofs.Writes.{fitted-some, fitted-refusal, sixteen}
 use Rattle.tables.proofs.WritingLaws.{front-written}
 use Rattle.pairing.specs.Pairs.{pairCount}
 use Rattle.pairing.proofs.Exploring.{none-held}
@@ -112,9 +112,17 @@ module _ (op : Operation) (t₁ s₁ t₂ s₂ pairs : List ℕ) (room : ℕ) (v
   unfolding combining ofTable combineTables combineRoots permitted
   answer-is = rw (first, second, eq-eqb (settings (wordAt t₁)) (settings (wordAt t₂)) one-n) (ap (λ (r : Reply (List ℕ)). r .1) (of-none _))
 
-  -- 20 exactly where there are more pairs than have room
-  pub too-many : length pairs / 32 < number → combining op t₁ s₁ t₂ s₂ pairs room .1 ≡ refusal 20 0
+  too-many : length pairs / 32 < number → combining op t₁ s₁ t₂ s₂ pairs room .1 ≡ refusal 20 0
   too-many l = answer-is ∙ rw (lt-ltb (length pairs / 32) number l)
+
+  -- 20 exactly where there are more pairs than have room
+  pub twenty-exactly : (combining op t₁ s₁ t₂ s₂ pairs room .1 ≡ refusal 20 0) ↔ (length pairs / 32 < number)
+  twenty-exactly = (λ e. go (ltb (length pairs / 32) number) refl (sym answer-is ∙ e), too-many)
+    where
+      go : (c : Bool) → ltb (length pairs / 32) number ≡ c → cond c (refusal 20 0) (fitted room (tableOf same (combination op (permitted (wordAt t₁)) (permitted (wordAt t₂))))) ≡ refusal 20 0
+          → length pairs / 32 < number
+      go true b q = ltb-true (length pairs / 32) number b
+      go false b q = ⊎-elim (λ z. absurd (omega arith)) (λ z. absurd (omega arith)) (fitted-refusal room _ 20 0 q)
 
   -- under 32 bytes always (n is at most 63 in any bytes)
   pub no-room : same ≤ 63 → length pairs < 32 → combining op t₁ s₁ t₂ s₂ pairs room .1 ≡ refusal 20 0

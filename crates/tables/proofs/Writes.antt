@@ -1,7 +1,7 @@
 -- Writing the table of a set: refused or written, by any other test that agrees, and where 16 is answered. Assumes nothing.
 use Prim.Native.Nat.{ℕ, _^_, _<_}
 use mathlib.Core.Path.{_≡_, refl, sym, ap, _∙_}
-use mathlib.Core.Logic.{_↔_}
+use mathlib.Core.Logic.{_↔_, _⊎_, inl, inr}
 use mathlib.Core.Bool.{Bool, true, false, cond}
 use mathlib.Core.List.{List, _++_}
 use mathlib.Core.Option.{Option, none, some}
@@ -52,6 +52,16 @@ pub fitted-some : (room : ℕ) (o : Option (List ℕ)) (bytes : List ℕ) → fi
 unfolding fitted
 fitted-some room none bytes e = absurd (refused-not e)
 fitted-some room (some b) bytes e = ap some (value-inj (passed (ltb room (length b)) refused-not e .1))
+
+-- no other refusals are answered than 16 and 11
+pub fitted-refusal : (room : ℕ) (o : Option (List ℕ)) (number place : ℕ) → fitted room o ≡ refusal number place → (number ≡ 16) ⊎ (number ≡ 11)
+unfolding fitted
+fitted-refusal room none number place e = inl cc
+fitted-refusal room (some bytes) number place e = go (ltb room (length bytes)) e
+  where
+    go : (c : Bool) → cond c (refusal 11 0) (value bytes) ≡ refusal number place → (number ≡ 16) ⊎ (number ≡ 11)
+    go true q = inr cc
+    go false q = absurd (refused-not (sym q))
 
 -- 16 is answered exactly where no accepted table permits the set
 pub sixteen : (room n : ℕ) (P : ℕ → Bool) → (fitted room (tableOf n P) ≡ refusal 16 0) ↔ ((t : List ℕ) (N : ℕ) → Bytes t → TableFor n P t N → ⊥)

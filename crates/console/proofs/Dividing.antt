@@ -1,0 +1,18 @@
+-- Demand 3 of a table that was made of two. Assumes nothing.
+use Prim.Native.Nat.{ℕ, _≤_, _<_}
+use mathlib.Core.Path.{_≡_}
+use mathlib.Core.List.{List, List·Memᴰ}
+use Rattle.words.specs.Words.{wordAt}
+use Rattle.diagram.specs.Format.{settings}
+use Rattle.diagram.specs.Answer.{value}
+use Rattle.parts.specs.Calls.{Call, Kept}
+use Rattle.parts.specs.Division.{Division}
+use Rattle.parts.proofs.Dividing.{written-division}
+use Rattle.combining.specs.declared.Operation.{Operation}
+use Rattle.combining.specs.Operations.{combining}
+use Rattle.combining.proofs.Theorems.{result}
+
+-- whatever list of part-write calls is made on the result, it divides the result as it would any table
+pub combined-division : (op : Operation) (table1 sheet1 table2 sheet2 pairs : List ℕ) (room : ℕ) (bytes : List ℕ) → combining op table1 sheet1 table2 sheet2 pairs room .1 ≡ value bytes
+    → (k : ℕ) → 0 < k → k ≤ 65535 → (calls : List Call) → ((c : Call) → List·Memᴰ c calls → Kept bytes k c) → (N : ℕ) × Division bytes (settings (wordAt table1)) N k calls
+combined-division op table1 sheet1 table2 sheet2 pairs room bytes e = written-division _ _ bytes (result op table1 sheet1 table2 sheet2 pairs room bytes e .table)
