@@ -427,28 +427,28 @@ fn divisions() {
     part_of(65536, 0);
 }
 
-fn two_tables() {
+fn with_itself() {
     let a = bytes_of(&A);
     combined(b"A joined with A", Operation::Joined, &a, 192);
     combined(b"A shared with A", Operation::Shared, &a, 192);
     combined(b"A without A", Operation::Without, &a, 192);
     combined(b"A joined with A, 191 bytes", Operation::Joined, &a, 191);
-    let fives = bytes_of(&[0x0C00000060000007, A[1], A[2], A[3]]);
-    combined(b"A joined with the others", Operation::Joined, &fives, 320);
-    combined(b"A without the others", Operation::Without, &fives, 320);
+}
+
+fn with_the_others() {
+    let others = bytes_of(&[0x0C00000060000007, A[1], A[2], A[3]]);
+    combined(b"A joined with the others", Operation::Joined, &others, 320);
+    combined(b"A without the others", Operation::Without, &others, 320);
+}
+
+fn with_the_odd_ones() {
     let last = bytes_of(&[0x0C00000020000002, A[1]]);
-    combined(
-        b"A shared with the odd ones",
-        Operation::Shared,
-        &last[0..16],
-        320,
-    );
-    combined(
-        b"A without the odd ones",
-        Operation::Without,
-        &last[0..16],
-        320,
-    );
+    let odd = &last[0..16];
+    combined(b"A shared with the odd ones", Operation::Shared, odd, 320);
+    combined(b"A without the odd ones", Operation::Without, odd, 320);
+}
+
+fn with_other_settings() {
     let two = bytes_of(&[0x0800000020000002, A[1]]);
     combined(b"A with n = 2", Operation::Shared, &two[0..16], 320);
     combined(b"A with 15 bytes", Operation::Shared, &two[0..15], 320);
@@ -463,5 +463,8 @@ fn main() {
     setups_ruled_out();
     lists_of_numbers();
     divisions();
-    two_tables();
+    with_itself();
+    with_the_others();
+    with_the_odd_ones();
+    with_other_settings();
 }
