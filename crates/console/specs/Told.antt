@@ -3,12 +3,10 @@ use Prim.Native.Nat.{ℕ}
 use mathlib.Core.Path.{_≡_}
 use mathlib.Core.List.{List, [], _∷_}
 use mathlib.Core.Option.{none, some}
-use lib.ListN.{length}
 use Rattle.diagram.specs.Answer.{Answer, value, refusal}
 use Rattle.exclusion.specs.Finding.{Finding, isPermitted, ruledOut}
-use Rattle.tables.specs.Writing.{lengthOf}
 use Rattle.combining.specs.declared.Operation.{Operation}
-use Rattle.combining.specs.Operations.{combining, Promise}
+use Rattle.combining.specs.Operations.{Reply, Promise}
 
 -- three words, of which only the first is used
 abbrev pub single : ℕ → List ℕ
@@ -35,9 +33,9 @@ unfoldable pub toldOf : ℕ → Answer ℕ → List ℕ
 toldOf table (value v) = single v
 toldOf table (refusal number place) = place ∷ table ∷ 0 ∷ []
 
--- what a function for C that makes two tables into one returns and tells, and what it leaves
+-- a function for C that makes two tables into one: it keeps the promise, and returns and tells what is answered
 pub record Combines (op : Operation) (table1 sheet1 table2 sheet2 pairs out : List ℕ) (r : ℕ) (answer sheet1′ sheet2′ pairs′ out′ : List ℕ) : Type 0 where
-  pub returns : r ≡ returned (combining op table1 sheet1 table2 sheet2 pairs (length out) .1)
-  pub tells : answer ≡ toldOf (combining op table1 sheet1 table2 sheet2 pairs (length out) .0) (lengthOf (combining op table1 sheet1 table2 sheet2 pairs (length out) .1))
-  pub leaves : Promise op table1 sheet1 table2 sheet2 pairs out
-      (combining op table1 sheet1 table2 sheet2 pairs (length out) .0, lengthOf (combining op table1 sheet1 table2 sheet2 pairs (length out) .1)) sheet1′ sheet2′ pairs′ out′
+  pub reply : Reply ℕ
+  pub keeps : Promise op table1 sheet1 table2 sheet2 pairs out reply sheet1′ sheet2′ pairs′ out′
+  pub returns : r ≡ returned (reply .1)
+  pub tells : answer ≡ toldOf (reply .0) (reply .1)

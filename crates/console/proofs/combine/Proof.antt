@@ -1,13 +1,13 @@
 -- `console::combine` meets its contract. Assumes nothing.
 use borrow.Author.Needs.{needs}
-use Rattle.console.proofs.Telling.{combines}
 use Rattle.console.proofs.combine.Statement.{statement}
 use Rattle.console.proofs.combine.Tie as tie
 
 returns : tie.Need-returns
 returns c =
     let combine = c .before .before .before .before .before .before .before .before .before .before in
-    combines _ _ _ _ _ _ _ _ _ _ _ _ (combine .combine .ensures) _ _ (c .tell-combined .ensures)
+    let told = c .tell-combined .ensures in
+    record { reply = _; keeps = combine .combine .ensures; returns = told .0; tells = told .1 }
 
 pub combine-spec : {M : Type 1} → statement M
 combine-spec =
