@@ -42,7 +42,7 @@ int is_of_part(enum operation op)
 
 size_t sheet_len_of(enum operation op, uint32_t count)
 {
-    return 8 * (op == PART_WRITE ? 4 * (size_t)count + 512 : (size_t)count + 1);
+    return 8 * (op == PART_WRITE ? (size_t)count + 512 : (size_t)count + 1);
 }
 
 static uint64_t ours(enum operation op, const struct lent *m, struct numbers x)

@@ -47,7 +47,7 @@ const char *operation_name(enum operation op);
 int is_list(enum operation op);
 int is_of_part(enum operation op); /* span or part-write */
 
-/* The sheet for a table of N records: N + 1 places, and 4 N + 512 for part-write. */
+/* The sheet for a table of N records: N + 1 places, and N + 512 for part-write. */
 size_t sheet_len_of(enum operation op, uint32_t count);
 
 /* An operation on one table; one on two. */

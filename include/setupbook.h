@@ -25,7 +25,7 @@
  *
  * Memory: `table` has table_len bytes and is only read, and so is the list `ranks`. `sheet` is a
  * work sheet of sheet_len bytes: 8 * (N + 1) are needed, as many as an accepted table has, and for
- * part-write 8 * (4 * N + 512). `out` receives the part or the result: 8 * (N' + 1) of its out_len
+ * part-write 8 * (N + 512). `out` receives the part or the result: 8 * (N' + 1) of its out_len
  * bytes are needed. `pairs` is the pair sheet: 32 bytes a pair are needed. `setups` receives a list
  * of as many items as `ranks` has. These memories share no byte, but two tables may be the same one
  * or overlap, and nobody else writes them during a call. No pointer is null; none needs an
@@ -33,7 +33,7 @@
  * check before a call. A call allocates nothing, keeps nothing and takes about 70 KiB of stack.
  *
  * Sheet afterwards: unchanged by refusals 1 to 8, and 10. After everything else, a result or a
- * refusal, the words that the call requires are zero: N + 1, and 4 * N + 512 for part-write. All
+ * refusal, the words that the call requires are zero: N + 1, and N + 512 for part-write. All
  * other bytes are unchanged. No call depends on what the sheet held before. With two tables each
  * sheet is as its own table's check leaves it, so sheet1 is zero where table2 is refused, and
  * sheet2 is unchanged where table1 is. `pairs` is unchanged by a table's refusal and by 19; after
@@ -54,7 +54,7 @@
  *      2  N is above 65,535
  *      1  table_len is not 8 * (N + 1)
  *      3  the root edge does not lead to node N
- *     10  sheet_len is under 8 * (N + 1), or for part-write under 8 * (4 * N + 512)
+ *     10  sheet_len is under 8 * (N + 1), or for part-write under 8 * (N + 512)
  *         then for record 1, record 2, ... to N:
  *      4    its height is 0 or above n
  *      6    an edge leads to a node not below k, or to a height not below its own
@@ -137,10 +137,10 @@ uint64_t setupbook_without(const uint8_t *table1, size_t table1_len,
 /* The length of the longest table, N = 65,535: out memory that is never too short. */
 #define SETUPBOOK_LONGEST 524288
 
-/* The sheet that serves an accepted table of this length in every call: 4 * N + 512 words. */
+/* The sheet that serves an accepted table of this length in every call: N + 512 words. */
 static inline size_t setupbook_sheet_len(size_t table_len)
 {
-    return 4 * table_len + 4064;
+    return table_len + 4088;
 }
 
 /* 1 if a packed answer is a refusal, 0 if it is a result. */

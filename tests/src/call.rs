@@ -22,7 +22,7 @@ impl<'a> Call<'a> {
     /// How many places of the sheet the call requires, for a table of `node_count` records.
     pub fn places(self, node_count: u64) -> u64 {
         match self {
-            Call::PartWrite { .. } => 4 * node_count + 512,
+            Call::PartWrite { .. } => node_count + 512,
             _ => node_count + 1,
         }
     }

@@ -23,7 +23,7 @@ use crate::tally::{
 
 const LONGEST_TABLE: usize = raw::LONGEST + 8;
 /// The longest sheet: part-write's for the longest table, and some bytes more.
-const LONGEST_SHEET: usize = 4 * raw::LONGEST + 8 * 512 + 4096;
+const LONGEST_SHEET: usize = raw::LONGEST + 8 * 512 + 4096;
 const LONGEST_OUT: usize = raw::LONGEST + 8 * 256 + 4096;
 /// The longest memories of a call on two tables; the longest tables may need longer ones.
 const LONGEST_OF_TWO: Memories<usize> = Memories {

@@ -115,17 +115,26 @@ fn every_out(comparison: &mut Comparison) {
     }
 }
 
-/// The sheet after a written part, after 11 and after 15, about N + 1 and about 4N + 512 places.
+/// The sheet after a written part, after 11 and after 15, about N + 1, about N + 512 and about
+/// 4N + 512 places. For N = 0, too.
 fn every_sheet(comparison: &mut Comparison) {
-    for (table, call) in tables_and_parts(comparison, 60) {
+    let mut compared = tables_and_parts(comparison, 60);
+    for n in [0, 1, 17, 63] {
+        for permitted in [false, true] {
+            let table = bytes_of(&tables::constant(n, permitted));
+            compared.push((table, Call::PartWrite { k: 3, j: 2 }));
+        }
+    }
+    for (table, call) in compared {
         let enough = paper::out_needed(call, &table);
+        let node_count = table.len() / 8 - 1;
         for (call, out_len) in [
             (call, enough),
             (call, enough - 1),
             (Call::PartWrite { k: 7, j: 7 }, enough),
         ] {
-            for other in [Call::Count, call] {
-                for sheet_len in sheets::border_lengths(sheets::needed(other, &table)) {
+            for places in [node_count + 1, node_count + 512, 4 * node_count + 512] {
+                for sheet_len in sheets::border_lengths(8 * places) {
                     comparison.compare_lengths(call, &table, sheet_len, out_len);
                 }
             }

@@ -248,13 +248,13 @@ fn parts() {
 fn written_parts() {
     let mut comparison = Comparison::of_run();
     let table = bytes_of(&A);
-    // Whatever is answered, the 4 * 3 + 512 places that are required come back blank.
+    // Whatever is answered, the 3 + 512 places that are required come back blank.
     let mut write = |k, j, out_len| {
         let (sheet, out) = ([0xFF; 8 * 526], vec![0xFF; out_len]);
         let outcome = comparison.compare(Call::PartWrite { k, j }, &table, &sheet, &out);
         let places = words_of(&outcome.sheet);
-        assert_eq!(places[..524], [0; 524]);
-        assert_eq!(places[524..], [u64::MAX; 2]);
+        assert_eq!(places[..515], [0; 515]);
+        assert_eq!(places[515..], [u64::MAX; 11]);
         outcome
     };
     for (j, words) in (0..).zip(HALVES_OF_A) {

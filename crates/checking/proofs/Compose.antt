@@ -16,7 +16,7 @@ use Rattle.rules.specs.declared.Refusal.{Refusal}
 use Rattle.rules.specs.declared.Verdict.{Verdict}
 use Rattle.rules.specs.declared.Verdict.the-variants.{Passed, Refused}
 use Rattle.rules.specs.Refusals.{numberOf, placeOf, verdictAs}
-use Rattle.checking.specs.Operations.{checking, checkingFor, sheetBy, blank, blankFor}
+use Rattle.checking.specs.Operations.{checkingFor, sheetBy, blankFor}
 
 -- a refusal other than 9 leaves the sheet as it was
 pub sheet-kept : {A : Type 0} (f : ℕ → ℕ) (m : ℕ) (a : Answer A) (number k : ℕ) (s : List ℕ) → a ≡ refusal number k → (number ≡ 9 → ⊥) → s ≡ sheetBy f m a s
@@ -70,7 +70,7 @@ module _ (need : ℕ → ℕ) (t s : List ℕ) (v : Verdict) (v-is : verdictAs v
         diagram-zeroed m m-is o s′ z =
             z ∙ rw (h .nodes-is) (sheet-zeroed _ (need (nodes (wordAt t))) (checkingFor need t s) (numberOf r) (placeOf r) s (sym diagram-refused) (sym m-is ∙ o))
 
--- N + 1 places, as the code has them
-pub need-one : (t s : List ℕ) → (checkingFor (λ N. 1 * N + 1) t s ≡ checking t s) × (blankFor (λ N. 1 * N + 1) t s ≡ blank t s)
+-- N and some places more, as the code has them
+pub need-one : (more : ℕ) (t s : List ℕ) → (checkingFor (λ N. 1 * N + more) t s ≡ checkingFor (λ N. N + more) t s) × (blankFor (λ N. 1 * N + more) t s ≡ blankFor (λ N. N + more) t s)
 unfolding checkingFor blankFor check checkHeader
-need-one t s = let e : 1 * nodes (wordAt t) + 1 ≡ nodes (wordAt t) + 1 = omega arith in (rw e, rw e)
+need-one more t s = let e : 1 * nodes (wordAt t) + more ≡ nodes (wordAt t) + more = omega arith in (rw e, rw e)

@@ -25,13 +25,13 @@ use Rattle.checking.specs.Inner.{Lends, Begins, Past}
 use Rattle.checking.proofs.Compose.{need-one}
 use Rattle.checking.proofs.Accepting.{checking-is, places-lent, table-holds, table-reduced, root-inside}
 
--- an operation that needs N + 1 places, as the code has them
-pub begun : {t s out : List ℕ} {a : Checked} → Begins (λ N. 1 * N + 1) t s out a → Begins (λ N. N + 1) t s out a
-begun {t} {s} {out} {a} B = record { answers = B .answers ∙ need-one t s .0; lends = go a (B .lends) }
+-- an operation that needs N and some places more, as the code has them
+pub begins-once : (more : ℕ) {t s out : List ℕ} {a : Checked} → Begins (λ N. 1 * N + more) t s out a → Begins (λ N. N + more) t s out a
+begins-once more {t} {s} {out} {a} B = record { answers = B .answers ∙ need-one more t s .0; lends = go a (B .lends) }
   where
-    go : (a : Checked) → Lends (λ N. 1 * N + 1) t s out a → Lends (λ N. N + 1) t s out a
+    go : (a : Checked) → Lends (λ N. 1 * N + more) t s out a → Lends (λ N. N + more) t s out a
     go (Table shape) lent = lent
-    go (Refused r) lent = lent ∙ need-one t s .1
+    go (Refused r) lent = lent ∙ need-one more t s .1
 
 -- N + 1 places are enough where N + 1 are needed
 pub enough : (N : ℕ) → N + 1 ≤ N + 1

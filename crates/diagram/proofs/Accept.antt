@@ -1,7 +1,7 @@
 -- A table is accepted exactly if the rules hold field by field. Assumes nothing.
 use Prim.Native.Nat.{ℕ, zero, suc, _+_, _-_, _*_, _/_, _%_, _≤_, _<_}
 use mathlib.Core.Path.{_≡_, refl, sym, ap, _∙_, subst}
-use mathlib.Core.Logic.{inl, inr}
+use mathlib.Core.Logic.{inl, inr, _≢_}
 use mathlib.Core.Bool.{Bool, true, false, not, cond, _&&_, _||_}
 use mathlib.Core.List.{List}
 use native.Mathlib.Omega.{arith}
@@ -11,7 +11,7 @@ use borrow.Author.Tests.{ltb-true, ltb-false, leb-false, eqb-true, eqb-false, lt
 use Rattle.words.specs.Words.{wordAt}
 use Rattle.words.proofs.Cases.{or-true, or-false, or-either, join-false, and-false, passed}
 use Rattle.diagram.specs.Format.{Words, settings, nodes, root, height, thenEdge, elseEdge}
-use Rattle.diagram.specs.Answer.{value, refusal, andThen, pass}
+use Rattle.diagram.specs.Answer.{Answer, value, refusal, andThen, pass}
 use Rattle.diagram.specs.Rules.{misled, checkRecord, names, named, checkNamed, checkHeader, checkRecords, checkNames, checkDiagram, check, Accepts}
 use Rattle.diagram.specs.Ordered.{Ordered, Reduced, Named, Proper, Accepted}
 use Rattle.diagram.proofs.AnswerLaws.{refused-not, value-inj, then-value, each-all, all-each, some-at, some-found}
@@ -219,6 +219,28 @@ accepted-lent bytes lent need n N A =
 
 pub accepted-check : (bytes : List ℕ) (lent : ℕ) (need : ℕ → ℕ) (n N : ℕ) → Accepted bytes n N → need N ≤ lent → check bytes lent need ≡ value (n, N)
 accepted-check bytes lent need n N A l = accepted-lent bytes lent need n N A ∙ rw (le-ltb lent (need N) l)
+
+-- the places that are lent, and those that are needed, are for rule 10 alone
+pub check-lent : (bytes : List ℕ) (lent lent′ : ℕ) (need need′ : ℕ → ℕ) → check bytes lent need ≢ refusal 10 0 → check bytes lent′ need′ ≢ refusal 10 0
+    → check bytes lent need ≡ check bytes lent′ need′
+unfolding check checkHeader andThen
+check-lent bytes lent lent′ need need′ =
+    let w = wordAt bytes in
+    go (ltb (length bytes) 8) (ltb 65535 (nodes w)) (not (eqb (length bytes) (8 * (nodes w + 1)))) (not (eqb (root w / 2) (nodes w)))
+    (ltb lent (need (nodes w))) (ltb lent′ (need′ (nodes w))) _
+  where
+    -- rules 1, 2, 1, 3 and 10, and what comes after them
+    header : Bool → Bool → Bool → Bool → Bool → Answer (ℕ × ℕ) → Answer (ℕ × ℕ)
+    header a b c d few next = andThen (cond a (refusal 1 0) (cond b (refusal 2 0) (cond c (refusal 1 0) (cond d (refusal 3 0) (cond few (refusal 10 0) pass))))) (λ _. next)
+
+    go : (a b c d few few′ : Bool) (next : Answer (ℕ × ℕ)) → header a b c d few next ≢ refusal 10 0 → header a b c d few′ next ≢ refusal 10 0 → header a b c d few next ≡ header a b c d few′ next
+    go true b c d few few′ next h h′ = refl
+    go false true c d few few′ next h h′ = refl
+    go false false true d few few′ next h h′ = refl
+    go false false false true few few′ next h h′ = refl
+    go false false false false true few′ next h h′ = absurd (h refl)
+    go false false false false false true next h h′ = absurd (h′ refl)
+    go false false false false false false next h h′ = refl
 
 -- acceptance is a matter of the bytes alone, and is the rules field by field
 pub accepts-accepted : (bytes : List ℕ) (n N : ℕ) → Accepts bytes n N → Accepted bytes n N

@@ -1,4 +1,4 @@
--- Which refusals the rules can give: 1 to 10, 9 only from rule 9, and no place above N. Assumes nothing.
+-- Which refusals the rules can give: 1 to 10, 9 only from rule 9, 10 only where too few places are lent, and no place above N. Assumes nothing.
 use Prim.Native.Nat.{ℕ, zero, suc, _+_, _-_, _*_, _/_, _%_, _≤_, _<_}
 use mathlib.Core.Path.{_≡_, refl, sym, subst}
 use mathlib.Core.Bool.{Bool, true, false, not, cond, _&&_, _||_}
@@ -6,6 +6,7 @@ use mathlib.Core.List.{List}
 use native.Mathlib.Omega.{arith}
 use lib.Dec.{eqb, ltb, leb}
 use lib.ListN.{length}
+use borrow.Author.Tests.{ltb-true}
 use Rattle.words.specs.Words.{wordAt}
 use Rattle.diagram.specs.Format.{Words, settings, nodes, root, height, thenEdge, elseEdge}
 use Rattle.diagram.specs.Answer.{Answer, value, refusal, andThen, pass, each}
@@ -41,35 +42,39 @@ unfolding each
 each-refuses Q f zero h = passes Q tt
 each-refuses Q f (suc m) h = then-refuses Q (each f m) (λ _. f m) (each-refuses Q f m (λ k l. h k (omega arith))) (λ _ e. h m (omega arith))
 
--- another number than 9, up to 10, at a place up to N
-abbrev pub Early : ℕ → ℕ → ℕ → Type 0
-Early N number place = (number ≡ 9 → ⊥) × (place ≤ N) × (number ≤ 10)
+-- another number than 9, up to 10, at place 0
+abbrev pub Early : ℕ → ℕ → Type 0
+Early number place = (number ≡ 9 → ⊥) × (place ≡ 0) × (number ≤ 10)
+
+-- a number below 9, at a place up to N
+abbrev pub Records : ℕ → ℕ → ℕ → Type 0
+Records N number place = (number < 9) × (place ≤ N)
 
 -- 9, at a place up to N
 abbrev pub Nine : ℕ → ℕ → ℕ → Type 0
 Nine N number place = (number ≡ 9) × (place ≤ N)
 
-pub header-refuses : (bytes : List ℕ) (lent : ℕ) (need : ℕ → ℕ) → Refuses (Early 0) (checkHeader bytes lent need)
+pub header-refuses : (bytes : List ℕ) (lent : ℕ) (need : ℕ → ℕ) → Refuses Early (checkHeader bytes lent need)
 unfolding checkHeader
 header-refuses bytes lent need =
     let w = wordAt bytes in
-    unless (Early 0) (ltb (length bytes) 8) 1 0 (λ e. omega arith, omega arith, omega arith)
-    (unless (Early 0) (ltb 65535 (nodes w)) 2 0 (λ e. omega arith, omega arith, omega arith)
-    (unless (Early 0) (not (eqb (length bytes) (8 * (nodes w + 1)))) 1 0 (λ e. omega arith, omega arith, omega arith)
-    (unless (Early 0) (not (eqb (root w / 2) (nodes w))) 3 0 (λ e. omega arith, omega arith, omega arith)
-    (unless (Early 0) (ltb lent (need (nodes w))) 10 0 (λ e. omega arith, omega arith, omega arith)
-    (passes (Early 0) tt)))))
+    unless Early (ltb (length bytes) 8) 1 0 (λ e. omega arith, refl, omega arith)
+    (unless Early (ltb 65535 (nodes w)) 2 0 (λ e. omega arith, refl, omega arith)
+    (unless Early (not (eqb (length bytes) (8 * (nodes w + 1)))) 1 0 (λ e. omega arith, refl, omega arith)
+    (unless Early (not (eqb (root w / 2) (nodes w))) 3 0 (λ e. omega arith, refl, omega arith)
+    (unless Early (ltb lent (need (nodes w))) 10 0 (λ e. omega arith, refl, omega arith)
+    (passes Early tt)))))
 
-pub records-refuse : (w : Words) (n N : ℕ) → Refuses (Early N) (checkRecords w n N)
+pub records-refuse : (w : Words) (n N : ℕ) → Refuses (Records N) (checkRecords w n N)
 unfolding checkRecords checkRecord
-records-refuse w n N = each-refuses (Early N) (λ k. checkRecord w n (suc k)) N λ i l.
+records-refuse w n N = each-refuses (Records N) (λ k. checkRecord w n (suc k)) N λ i l.
     let k = suc i in
-    unless (Early N) (eqb (height w k) 0 || ltb n (height w k)) 4 k (λ e. omega arith, l, omega arith)
-    (unless (Early N) (misled w k (thenEdge w k) || misled w k (elseEdge w k)) 6 k (λ e. omega arith, l, omega arith)
-    (unless (Early N) (ltb 1 k && leb (w k) (w (k - 1))) 5 k (λ e. omega arith, l, omega arith)
-    (unless (Early N) (eqb (thenEdge w k % 2) 1) 7 k (λ e. omega arith, l, omega arith)
-    (unless (Early N) (eqb (thenEdge w k) (elseEdge w k)) 8 k (λ e. omega arith, l, omega arith)
-    (passes (Early N) tt)))))
+    unless (Records N) (eqb (height w k) 0 || ltb n (height w k)) 4 k (omega arith, l)
+    (unless (Records N) (misled w k (thenEdge w k) || misled w k (elseEdge w k)) 6 k (omega arith, l)
+    (unless (Records N) (ltb 1 k && leb (w k) (w (k - 1))) 5 k (omega arith, l)
+    (unless (Records N) (eqb (thenEdge w k % 2) 1) 7 k (omega arith, l)
+    (unless (Records N) (eqb (thenEdge w k) (elseEdge w k)) 8 k (omega arith, l)
+    (passes (Records N) tt)))))
 
 pub names-refuse : (w : Words) (N : ℕ) → Refuses (Nine N) (checkNames w N)
 unfolding checkNames checkNamed
@@ -89,7 +94,7 @@ check-refuses bytes lent need =
     let w = wordAt bytes in
     then-refuses Own (checkHeader bytes lent need) _ (λ r p e. let h = header-refuses bytes lent need r p e in (omega arith, h .2)) λ _ ok.
     then-refuses Own (checkDiagram w (settings w) (nodes w)) _
-    (then-refuses Own (checkRecords w (settings w) (nodes w)) _ (λ r p e. let h = records-refuse w (settings w) (nodes w) r p e in (omega (arith, headed bytes lent need ok .few), h .2))
+    (then-refuses Own (checkRecords w (settings w) (nodes w)) _ (λ r p e. let h = records-refuse w (settings w) (nodes w) r p e in (omega (arith, headed bytes lent need ok .few), omega arith))
     λ _ _ r p e. let h = names-refuse w (nodes w) r p e in (omega (arith, headed bytes lent need ok .few), omega arith))
     λ _ _. passes Own (settings w, nodes w)
 
@@ -101,3 +106,27 @@ nine-headed bytes lent need place e = go (checkHeader bytes lent need) refl _ e
     go : (a : Answer (Unit {0})) → checkHeader bytes lent need ≡ a → (g : Unit {0} → Answer (ℕ × ℕ)) → andThen a g ≡ refusal 9 place → checkHeader bytes lent need ≡ pass
     go (value v) q g e = q
     go (refusal r p) q g e = let i : r ≡ 9 = cc in absurd (header-refuses bytes lent need r p q .0 i)
+
+-- 10 only where fewer places are lent than are needed
+pub ten-lent : (bytes : List ℕ) (lent : ℕ) (need : ℕ → ℕ) (place : ℕ) → check bytes lent need ≡ refusal 10 place → lent < need (nodes (wordAt bytes))
+unfolding check checkHeader checkDiagram
+ten-lent bytes lent need place e =
+    let w = wordAt bytes in
+    then-refuses Ten (checkHeader bytes lent need) _
+    (unless Ten (ltb (length bytes) 8) 1 0 (λ i. omega arith)
+    (unless Ten (ltb 65535 (nodes w)) 2 0 (λ i. omega arith)
+    (unless Ten (not (eqb (length bytes) (8 * (nodes w + 1)))) 1 0 (λ i. omega arith)
+    (unless Ten (not (eqb (root w / 2) (nodes w))) 3 0 (λ i. omega arith)
+    (few (ltb lent (need (nodes w))) refl)))))
+    (λ _ _. then-refuses Ten (checkDiagram w (settings w) (nodes w)) _
+    (then-refuses Ten (checkRecords w (settings w) (nodes w)) _ (λ r p q i. absurd (omega (arith, records-refuse w (settings w) (nodes w) r p q .0)))
+    λ _ _ r p q i. absurd (omega (arith, names-refuse w (nodes w) r p q .0)))
+    λ _ _. passes Ten (settings w, nodes w))
+    10 place e refl
+  where
+    Ten : ℕ → ℕ → Type 0
+    Ten number place = number ≡ 10 → lent < need (nodes (wordAt bytes))
+
+    few : (b : Bool) → ltb lent (need (nodes (wordAt bytes))) ≡ b → Refuses Ten (cond b (refusal 10 0) pass)
+    few true q = refuses Ten 10 0 (λ _. ltb-true lent (need (nodes (wordAt bytes))) q)
+    few false q = passes Ten tt

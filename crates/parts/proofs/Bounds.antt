@@ -25,7 +25,7 @@ use Rattle.tables.specs.Table.{tableOf}
 use Rattle.tables.specs.Writing.{fitted, lengthOf}
 use Rattle.tables.proofs.TableLaws.{tableOf-some}
 use Rattle.tables.proofs.Writes.{fitted-some}
-use Rattle.parts.specs.Operations.{needed, partOf, partWriting, Promise}
+use Rattle.parts.specs.Operations.{needed, partOf, partWriting, partWritingFor, Promise}
 use Rattle.parts.proofs.Promised.{answer-value, answer-refusal}
 
 -- the refusals stay
@@ -35,7 +35,7 @@ length-refuses Q (value bytes) h = passes Q (length bytes)
 length-refuses Q (refusal number place) h = refuses Q number place (h number place refl)
 
 -- a part is refused by 15, 16 and 11
-part-refuses : (Q : ℕ → ℕ → Type 0) → Q 15 0 → Q 16 0 → Q 11 0 → (k j room n : ℕ) (P : ℕ → Bool) → Refuses Q (partOf k j room n P)
+pub part-refuses : (Q : ℕ → ℕ → Type 0) → Q 15 0 → Q 16 0 → Q 11 0 → (k j room n : ℕ) (P : ℕ → Bool) → Refuses Q (partOf k j room n P)
 unfolding partOf
 part-refuses Q q q′ q″ k j room n P = unless Q (noPart k j) 15 0 q (fits (tableOf n (inPart k j n P)))
   where
@@ -45,14 +45,14 @@ part-refuses Q q q′ q″ k j room n P = unless Q (noPart k j) 15 0 q (fits (ta
 
 -- the place of every refusal is at most 65,535
 pub part-place : (t : List ℕ) (k j : ℕ) (s : List ℕ) (room : ℕ) → Refuses Low (lengthOf (partWriting t k j s room))
-unfolding partWriting
+unfolding partWritingFor
 part-place t k j s room =
     length-refuses Low (partWriting t k j s room)
     (then-refuses Low (checkingFor needed t s) _ (checking-place needed t s) λ _ _. part-refuses Low (omega arith) (omega arith) (omega arith) k j room (settings (wordAt t)) (permitted (wordAt t)))
 
 -- the sheet is handed back as asked, by every call that keeps the promise
 pub part-back : (t : List ℕ) (k j : ℕ) (s out : List ℕ) (answer : Answer ℕ) (s′ out′ : List ℕ) → Promise t k j s out answer s′ out′ → HandedBack (needed (nodes (wordAt t))) answer s s′
-unfolding partWriting
+unfolding partWritingFor
 part-back t k j s out answer s′ out′ K =
     let H = hands-back needed t s (λ _. partOf k j (length out) (settings (wordAt t)) (permitted (wordAt t))) (λ _. part-refuses Late (omega arith) (omega arith) (omega arith) k j (length out) (settings (wordAt t)) (permitted (wordAt t))) in
     let same : BeforeNine answer → BeforeNine (partWriting t k j s (length out)) = λ b. (b .0, b .1, answer-refusal (partWriting t k j s (length out)) (b .0) (b .1) (sym (K .answers) ∙ b .2), b .3, b .4) in
@@ -61,7 +61,7 @@ part-back t k j s out answer s′ out′ K =
 
 -- a written part has at most 524,288 bytes
 pub bytes-fit : (t : List ℕ) (k j : ℕ) (s : List ℕ) (room m : ℕ) → lengthOf (partWriting t k j s room) ≡ value m → m ≤ 524288
-unfolding partWriting partOf
+unfolding partWritingFor partOf
 bytes-fit t k j s room m e =
     let n = settings (wordAt t) in
     let P = inPart k j n (permitted (wordAt t)) in

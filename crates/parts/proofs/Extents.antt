@@ -31,10 +31,10 @@ use Rattle.division.proofs.Sharing.{some-part}
 use Rattle.tables.specs.Table.{tableOf}
 use Rattle.tables.specs.Writing.{fitted, lengthOf, outAfter}
 use Rattle.tables.specs.Inner.{Writes}
-use Rattle.parts.specs.Operations.{needed, partOf, partWriting, Promise}
+use Rattle.parts.specs.Operations.{needed, partOf, partWriting, partWritingFor, Promise}
 use Rattle.parts.proofs.Lending.{past-more}
 
--- 4 × N + 512 places are enough
+-- N + 512 places are enough
 pub some-needed : (N : ℕ) → N + 1 ≤ needed N
 some-needed N = omega arith
 
@@ -92,7 +92,7 @@ module _ {t s s′ : List ℕ} {n N e : ℕ} (C : Countable t s n N e) {a : Answ
 module _ {table sheet after : List ℕ} {a : Checked} (B : Begins needed table sheet after a) (k j : ℕ) (out : List ℕ) where
   -- refused by the check
   pub check-refused : {r : Refusal} → a ≡ Refused r → (number place : ℕ) → checkedAs a ≡ refusal number place → Promise table k j sheet out (refusal number place) after out
-  unfolding partWriting lengthOf outAfter
+  unfolding partWritingFor lengthOf outAfter
   check-refused q number place e =
       let p : refusal number place ≡ partWriting table k j sheet (length out) = handed-on B _ number place e in
       record { answers = ap lengthOf p; writes = ap (λ b. outAfter b out) p; leaves = handed-back B q }
@@ -101,7 +101,7 @@ module _ {table sheet after : List ℕ} {a : Checked} (B : Begins needed table s
   pub part-promised : {shape : Shape} → a ≡ Table shape → {n N e : ℕ} → IsHeader (wordAt table) n N e → (answer : Answer ℕ) (out′ sheet′ blank : List ℕ)
       → let part = partOf k j (length out) n (under (wordAt table) e) in
       (answer ≡ lengthOf part) × (out′ ≡ outAfter part out) × Past (needed N) after sheet′ → blank ≡ wordsOver (λ _. 0) (needed N) sheet′ → Promise table k j sheet out answer blank out′
-  unfolding partWriting
+  unfolding partWritingFor
   part-promised q {n} {N} {e} h answer out′ sheet′ blank w z =
       let p = answered B q h (partOf k j (length out)) (partOf k j (length out) n (under (wordAt table) e)) refl in
       record { answers = w .0 ∙ ap lengthOf p; writes = w .1 ∙ ap (λ b. outAfter b out) p; leaves = blanked B q (h .nodes-is) sheet′ blank (w .2) z }

@@ -1,28 +1,29 @@
 -- The places of the sheet that are lent for the new numbers. Assumes nothing.
 use Prim.Native.Nat.{ℕ, _+_, _-_, _*_, _≤_}
 use mathlib.Core.Path.{_≡_, sym, ap, _∙_}
-use mathlib.Core.List.{List}
+use mathlib.Core.List.{List, _++_}
 use native.Mathlib.Omega.{arith}
-use lib.ListN.{length, take, drop, length-drop}
-use lib.Seq.{length-take-le, drop-drop}
-use borrow.Rule.Slice.PartMut.{putMid, drop-put}
+use lib.ListN.{length, take, drop}
+use lib.Seq.{length-take-le, drop-at, drop-drop}
 use Rattle.checking.specs.Inner.{Past}
 use Rattle.cutting.specs.Cut.{Room}
 use Rattle.parts.specs.Operations.{needed}
 
--- the bytes of a sheet from `begin` to `end`, lent as a map
-module _ (sheet : List ℕ) (begin end : ℕ) (fits : end ≤ length sheet) where
-  lent-long : length (take (end - begin) (drop begin sheet)) ≡ end - begin
-  lent-long = length-take-le (end - begin) (drop begin sheet) (omega (arith, length-drop begin sheet))
+-- the places that are needed for a table of N nodes, lent as a map
+module _ (sheet : List ℕ) (N : ℕ) (fits : 8 * needed N ≤ length sheet) where
+  abbrev lent : List ℕ
+  lent = take (8 * needed N) sheet
 
-  -- they are room enough
-  pub lent-room : (table : List ℕ) (n N : ℕ) → 8 * (N + n + n) + 8 ≤ end - begin → 8 * N + 8 ≤ length table → n ≤ 63 → N ≤ 65535 → Room table (take (end - begin) (drop begin sheet)) n N
-  lent-room table n N room l few m = record { table-long = l; map-long = omega (arith, lent-long); few-settings = few; few-nodes = m }
+  pub lent-long : length lent ≡ 8 * needed N
+  lent-long = length-take-le (8 * needed N) sheet fits
 
--- places N + 1 to 4 × N + 511, lent: those past them are as before
-pub lent-past : (sheet : List ℕ) (N : ℕ) → 8 * needed N ≤ length sheet → (map : List ℕ)
-    → let begin = 8 * (N + 1) in let end = 8 * needed N in length map ≡ length (take (end - begin) (drop begin sheet)) → Past (needed N) sheet (putMid begin (end - begin) sheet map)
-lent-past sheet N room map l = let begin = 8 * (N + 1) in let end = 8 * needed N in drop-put begin end sheet map (omega arith) room (l ∙ lent-long sheet begin end room)
+  -- they are room enough: N + 2 n + 1 places are used
+  pub lent-room : (table : List ℕ) (n : ℕ) → 8 * N + 8 ≤ length table → n ≤ 63 → N ≤ 65535 → Room table lent n N
+  lent-room table n l few m = record { table-long = l; map-long = omega (arith, lent-long); few-settings = few; few-nodes = m }
+
+  -- those past them are as before
+  pub lent-past : (map : List ℕ) → length map ≡ length lent → Past (needed N) sheet (map ++ drop (8 * needed N) sheet)
+  lent-past map l = drop-at map (drop (8 * needed N) sheet) (8 * needed N) (l ∙ lent-long)
 
 -- what is past more places is past fewer
 pub past-more : (m m′ : ℕ) (s s′ : List ℕ) → m ≤ m′ → Past m s s′ → Past m′ s s′

@@ -5,3 +5,4 @@ pub mod Extents
 pub mod Ends
 pub mod Lending
 pub mod Bounds
+pub mod SmallerSheet

@@ -23,7 +23,7 @@ use Rattle.tables.specs.Table.{tableOf}
 use Rattle.tables.specs.Writing.{lengthOf, outAfter, frontOf}
 use Rattle.tables.proofs.Writes.{fitted-some}
 use Rattle.tables.proofs.WritingLaws.{front-written}
-use Rattle.parts.specs.Operations.{needed, partOf, partWriting, Promise}
+use Rattle.parts.specs.Operations.{needed, partOf, partWriting, partWritingFor, Promise}
 use Rattle.parts.specs.Calls.{Call, Kept}
 use Rattle.parts.specs.Division.{due}
 
@@ -48,7 +48,7 @@ module _ (table : List ℕ) (n N k : ℕ) (ok : Accepts table n N) (parts : 0 < 
 
   -- part-write answers what is due
   pub due-is : (c : Call) → partWriting table k (c .index) (c .sheet) (length (c .out)) ≡ due table n N k c
-  unfolding partWriting checkingFor partOf due andThen
+  unfolding partWritingFor checkingFor partOf due andThen
   due-is c =
       rw (accepted-lent table (length (c .sheet) / 8) needed n N A, ← (none-index k (c .index) (λ e. omega arith) few), A .has-settings)
       (go (ltb (length (c .sheet) / 8) (needed N)) _)

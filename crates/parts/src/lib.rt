@@ -19,7 +19,7 @@ use division::Extent;
 use division::Spanned;
 use tables::Written;
 
-// Writes the table of a part, by its extent. The sheet's places 0 to N hold the shares; those behind them are for the new numbers.
+// Writes the table of a part, by its extent. The sheet's places 0 to N hold the shares until the part's two bounds are known; then all places that are needed are for the new numbers.
 fn write_extent(
     table: &[u8],
     sheet: &mut [u8],
@@ -41,11 +41,10 @@ fn write_extent(
     let last = first + (extent.size - 1);
     let lo = ranking::descend(table, sheet, n, root, Rank(first));
     let hi = ranking::descend(table, sheet, n, root, Rank(last));
-    let begin = 8 * (nodes + 1);
-    let end = 8 * (4 * nodes + 512);
+    let end = 8 * (nodes + 512);
     writing::write_between(
         table,
-        &mut sheet[begin..end],
+        &mut sheet[..end],
         out,
         n as usize,
         nodes,
@@ -82,7 +81,7 @@ fn write_part(
 pub fn part_write(table: &[u8], k: u64, j: u64, sheet: &mut [u8], out: &mut [u8]) -> Written
     ensures { λ r. ⌜ Promise (now (table .entry)) k j (now (sheet .entry)) (now (out .entry)) (writtenAs r) (now (sheet .exit)) (now (out .exit)) ⌝ }
 {
-    let checked = checking::begin_with(table, sheet, 4, 512);
+    let checked = checking::begin_with(table, sheet, 1, 512);
     let Checked::Table(_) = checked else {
         return Written::Refused(checking::refusal_of(checked));
     };
@@ -97,6 +96,6 @@ pub fn part_write(table: &[u8], k: u64, j: u64, sheet: &mut [u8], out: &mut [u8]
         k,
         j,
     );
-    words::blank(sheet, 4 * header.nodes + 512);
+    words::blank(sheet, header.nodes + 512);
     written
 }

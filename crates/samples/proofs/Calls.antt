@@ -27,12 +27,12 @@ call-kept j m b came e =
 -- each call of the list
 pub calls-kept : (c : Call) → List·Memᴰ c calls → Kept A 2 c
 unfolding calls
-calls-kept c (List·Memᴰ·head e) = rw e (call-kept 1 524 40 (value A₁) (part-1 524 40 (lit≤ tt) (lit≤ tt)))
-calls-kept c (List·Memᴰ·tail (List·Memᴰ·head e)) = rw e (call-kept 0 524 48 (value A₀) (part-0 524 48 (lit≤ tt) (lit≤ tt)))
-calls-kept c (List·Memᴰ·tail (List·Memᴰ·tail (List·Memᴰ·head e))) = rw e (call-kept 1 524 39 (refusal 11 0) (part-1-short 524 39 (lit≤ tt) (lit< tt)))
-calls-kept c (List·Memᴰ·tail (List·Memᴰ·tail (List·Memᴰ·tail (List·Memᴰ·head e)))) = rw e (call-kept 2 524 48 (refusal 15 0) (part-2 524 48 (lit≤ tt)))
-calls-kept c (List·Memᴰ·tail (List·Memᴰ·tail (List·Memᴰ·tail (List·Memᴰ·tail (List·Memᴰ·head e))))) = rw e (call-kept 0 523 48 (refusal 10 0) (places-short 523 48 0 (lit< tt)))
-calls-kept c (List·Memᴰ·tail (List·Memᴰ·tail (List·Memᴰ·tail (List·Memᴰ·tail (List·Memᴰ·tail (List·Memᴰ·head e)))))) = rw e (call-kept 0 524 32 (value A₀) (part-0 524 32 (lit≤ tt) (lit≤ tt)))
+calls-kept c (List·Memᴰ·head e) = rw e (call-kept 1 515 40 (value A₁) (part-1 515 40 (lit≤ tt) (lit≤ tt)))
+calls-kept c (List·Memᴰ·tail (List·Memᴰ·head e)) = rw e (call-kept 0 515 48 (value A₀) (part-0 515 48 (lit≤ tt) (lit≤ tt)))
+calls-kept c (List·Memᴰ·tail (List·Memᴰ·tail (List·Memᴰ·head e))) = rw e (call-kept 1 515 39 (refusal 11 0) (part-1-short 515 39 (lit≤ tt) (lit< tt)))
+calls-kept c (List·Memᴰ·tail (List·Memᴰ·tail (List·Memᴰ·tail (List·Memᴰ·head e)))) = rw e (call-kept 2 515 48 (refusal 15 0) (part-2 515 48 (lit≤ tt)))
+calls-kept c (List·Memᴰ·tail (List·Memᴰ·tail (List·Memᴰ·tail (List·Memᴰ·tail (List·Memᴰ·head e))))) = rw e (call-kept 0 514 48 (refusal 10 0) (places-short 514 48 0 (lit< tt)))
+calls-kept c (List·Memᴰ·tail (List·Memᴰ·tail (List·Memᴰ·tail (List·Memᴰ·tail (List·Memᴰ·tail (List·Memᴰ·head e)))))) = rw e (call-kept 0 515 32 (value A₀) (part-0 515 32 (lit≤ tt) (lit≤ tt)))
 
 -- so demand 3 holds of the list
 pub A-divided : Division A 3 3 2 calls
@@ -41,8 +41,8 @@ A-divided = division A 3 3 2 A-accepted (lit< tt) (lit≤ tt) calls calls-kept
 -- ... and both parts were written
 pub wrote-0 : Wrote calls 0 A₀
 unfolding calls call lengthOf
-wrote-0 = record { call = call 0 524 48 (value A₀); listed = List·Memᴰ·tail (List·Memᴰ·head refl); index-is = refl; count = length A₀; answered = refl; read = sym (front-written A₀ (bytesOf 48 0)) }
+wrote-0 = record { call = call 0 515 48 (value A₀); listed = List·Memᴰ·tail (List·Memᴰ·head refl); index-is = refl; count = length A₀; answered = refl; read = sym (front-written A₀ (bytesOf 48 0)) }
 
 pub wrote-1 : Wrote calls 1 A₁
 unfolding calls call lengthOf
-wrote-1 = record { call = call 1 524 40 (value A₁); listed = List·Memᴰ·head refl; index-is = refl; count = length A₁; answered = refl; read = sym (front-written A₁ (bytesOf 40 0)) }
+wrote-1 = record { call = call 1 515 40 (value A₁); listed = List·Memᴰ·head refl; index-is = refl; count = length A₁; answered = refl; read = sym (front-written A₁ (bytesOf 40 0)) }

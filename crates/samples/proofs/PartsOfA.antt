@@ -29,20 +29,20 @@ A₁-is = refl
 
 -- with m places and b bytes lent
 module _ (m b : ℕ) where
-  pub part-0 : 524 ≤ m → 32 ≤ b → partWriting A 2 0 (sheet m) b ≡ value A₀
+  pub part-0 : 515 ≤ m → 32 ≤ b → partWriting A 2 0 (sheet m) b ≡ value A₀
   unfolding A₀
   part-0 p q = part-is A 3 3 2 A-accepted (lit< tt) (lit≤ tt) m p 0 b (lit< tt) 3 _ A₀-is q
 
-  pub part-1 : 524 ≤ m → 40 ≤ b → partWriting A 2 1 (sheet m) b ≡ value A₁
+  pub part-1 : 515 ≤ m → 40 ≤ b → partWriting A 2 1 (sheet m) b ≡ value A₁
   unfolding A₁
   part-1 p q = part-is A 3 3 2 A-accepted (lit< tt) (lit≤ tt) m p 1 b (lit< tt) 4 _ A₁-is q
 
-  pub part-1-short : 524 ≤ m → b < 40 → partWriting A 2 1 (sheet m) b ≡ refusal 11 0
+  pub part-1-short : 515 ≤ m → b < 40 → partWriting A 2 1 (sheet m) b ≡ refusal 11 0
   unfolding A₁
   part-1-short p q = out-short A 3 3 2 A-accepted (lit< tt) (lit≤ tt) m p 1 b (lit< tt) 4 _ A₁-is q
 
-  pub part-2 : 524 ≤ m → partWriting A 2 2 (sheet m) b ≡ refusal 15 0
+  pub part-2 : 515 ≤ m → partWriting A 2 2 (sheet m) b ≡ refusal 15 0
   part-2 p = index-high A 3 3 2 A-accepted (lit< tt) (lit≤ tt) m p 2 b (lit≤ tt)
 
-  pub places-short : (j : ℕ) → m < 524 → partWriting A 2 j (sheet m) b ≡ refusal 10 0
+  pub places-short : (j : ℕ) → m < 515 → partWriting A 2 j (sheet m) b ≡ refusal 10 0
   places-short j p = sheet-short A 3 3 2 A-accepted (lit< tt) (lit≤ tt) j m b p

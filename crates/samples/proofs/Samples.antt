@@ -27,4 +27,4 @@ full-count = ap value full-total
 pub samples-hold : All samples
 unfolding table A A′ full single empty members setups sheet parts All samples beAt wordAt bytesOf highField middleField lowField settings nodes root height thenEdge elseEdge bit branch flip holds plain under permitted indicator countBelow select someBelow place total andThen each misled checkRecord names named checkNamed checkHeader checkRecords checkNames checkDiagram check checkingFor counting testSetup rankSetup ranking orTooHigh unrankSetup unranking size start noPart spanOf spanning
 samples-hold =
-    (refl, (refl, (refl, (refl, (refl, (refl, (refl, (refl, (refl, (refl, (refl, (refl, (refl, (part-0 524 32 (lit≤ tt) (lit≤ tt), (part-1 524 40 (lit≤ tt) (lit≤ tt), (full-count, (refl, (refl, (refl, (refl, tt))))))))))))))))))))
+    (refl, (refl, (refl, (refl, (refl, (refl, (refl, (refl, (refl, (refl, (refl, (refl, (refl, (part-0 515 32 (lit≤ tt) (lit≤ tt), (part-1 515 40 (lit≤ tt) (lit≤ tt), (full-count, (refl, (refl, (refl, (refl, tt))))))))))))))))))))

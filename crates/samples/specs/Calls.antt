@@ -23,4 +23,4 @@ call j m b came = record {
 -- part 1, part 0, three refusals, and part 0 again
 unfoldable pub calls : List Call
 calls =
-    call 1 524 40 (value A₁) ∷ call 0 524 48 (value A₀) ∷ call 1 524 39 (refusal 11 0) ∷ call 2 524 48 (refusal 15 0) ∷ call 0 523 48 (refusal 10 0) ∷ call 0 524 32 (value A₀) ∷ []
+    call 1 515 40 (value A₁) ∷ call 0 515 48 (value A₀) ∷ call 1 515 39 (refusal 11 0) ∷ call 2 515 48 (refusal 15 0) ∷ call 0 514 48 (refusal 10 0) ∷ call 0 515 32 (value A₀) ∷ []

@@ -325,7 +325,7 @@ fn part_of(k: u64, j: u64) {
     say_number(b", part ", j);
     say(b":");
     let a = bytes_of(&A);
-    let mut sheet = [0u8; 4192];
+    let mut sheet = [0u8; 4120];
     let mut out = [0u8; 64];
     let written = parts::part_write(&a, k, j, &mut sheet, &mut out);
     match written {

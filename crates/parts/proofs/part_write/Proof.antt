@@ -1,11 +1,10 @@
 -- `parts::part_write` meets its contract: as every operation begins, `write_part` from the root edge, and a blank sheet. Assumes nothing.
-use Prim.Native.Nat.{_≤_}
 use mathlib.Core.Path.{sym, subst}
 use native.Mathlib.Omega.{arith}
 use borrow.Author.Needs.{needs}
 use Rattle.checking.specs.Inner.{IsRefused}
 use Rattle.checking.proofs.Accepting.{table-long, table-holds}
-use Rattle.checking.proofs.Lending.{places-left, countable}
+use Rattle.checking.proofs.Lending.{begins-once, places-left, countable}
 use Rattle.parts.proofs.Extents.{some-needed, check-refused, part-promised}
 use Rattle.parts.proofs.part_write.Statement.{statement}
 use Rattle.parts.proofs.part_write.Tie as tie
@@ -16,7 +15,7 @@ refusal-of-requires c κs = subst IsRefused (sym (c .enum-told2 .given .1)) tt
 returns : tie.Need-returns
 returns c =
     let told = c .before in
-    check-refused (told .before .before .before .before .begin-with .ensures) _ _ _ (told .enum-told2 .given .1) _ _ (c .refusal-of .ensures)
+    check-refused (begins-once 512 (told .before .before .before .before .begin-with .ensures)) _ _ _ (told .enum-told2 .given .1) _ _ (c .refusal-of .ensures)
 
 header-of-requires : tie.Need-header-of-requires
 header-of-requires c κs = table-long (c .before .before .before .before .begin-with .ensures) (c .enum-told .given .1)
@@ -28,20 +27,15 @@ begun c = c .before .before .before .before .before
 write-part-requires : tie.Need-write-part-requires
 write-part-requires c κs =
     let a = c .before .before in
-    let B = begun a .begin-with .ensures in
+    let B = begins-once 512 (begun a .begin-with .ensures) in
     let q = a .before .enum-told .given .1 in
     let h = a .header-of .ensures in
     (countable B q h (some-needed _), places-left B q (h .nodes-is))
 
--- the number of places fits 64 bits
-few : (c : tie.After-header-of) → c .header-of .result .nodes ≤ 65535
-few c = table-holds (begun c .begin-with .ensures) (c .before .enum-told .given .1) (c .header-of .ensures) .few
-
-mul-blank : tie.Need-mul-blank
-mul-blank c = record { fits = omega (arith, few (c .before .before .before .before .before .before .before .before .before)) }
-
 add-blank : tie.Need-add-blank
-add-blank c = record { fits = omega (arith, few (c .before .before .before .before .before .before .before .before .before)) }
+add-blank c =
+    let a = c .before .before .before .before .before .before .before .before .before in
+    record { fits = omega (arith, table-holds (begun a .begin-with .ensures) (a .before .enum-told .given .1) (a .header-of .ensures) .few) }
 
 blank-requires : tie.Need-blank-requires
 blank-requires c κs =
@@ -54,10 +48,11 @@ returns-2 c =
     let blank = c .before .before in
     let inner = blank .before .before .before .before .before .before .before in
     let a = inner .before .before .before in
-    part-promised (begun a .begin-with .ensures) _ _ _ (a .before .enum-told .given .1) (a .header-of .ensures) _ _ _ _ (inner .write-part .ensures) (blank .blank .ensures)
+    let B = begins-once 512 (begun a .begin-with .ensures) in
+    part-promised B _ _ _ (a .before .enum-told .given .1) (a .header-of .ensures) _ _ _ _ (inner .write-part .ensures) (blank .blank .ensures)
 
 pub part-write-spec : {M : Type 1} → statement M
 part-write-spec =
     tie.close
     (tie.spec (λ c κs. search needs) (λ c. search needs) (λ c. search needs) refusal-of-requires (λ c. search needs) returns header-of-requires
-    write-part-requires mul-blank add-blank blank-requires (λ c. search needs) (λ c. search needs) returns-2)
+    write-part-requires add-blank blank-requires (λ c. search needs) (λ c. search needs) returns-2)

@@ -1,12 +1,12 @@
 -- `parts::write_extent` meets its contract. Assumes nothing.
-use mathlib.Core.Path.{refl}
+use mathlib.Core.Path.{refl, sym}
 use native.Mathlib.Omega.{arith}
 use borrow.Author.Needs.{needs}
 use Rattle.words.specs.Words.{wordAt}
 use Rattle.diagram.specs.Meaning.{under}
 use Rattle.diagram.proofs.Select.{select-some}
 use Rattle.parts.proofs.Ends.{extent-fits, none-written, some-written}
-use Rattle.parts.proofs.Lending.{lent-room, lent-past}
+use Rattle.parts.proofs.Lending.{lent-long, lent-room, lent-past}
 use Rattle.parts.proofs.write_extent.Statement.{statement}
 use Rattle.parts.proofs.write_extent.Tie as tie
 
@@ -19,13 +19,13 @@ add-last c =
     let l = extent-fits (b .args .n) (under (wordAt (b .args .table .now)) (b .args .root .value)) (b .args .extent .start .0) (b .args .extent .size) (b .pre .1 .few) (b .pre .3) in
     record { fits = omega (arith, l, c .before .if1 .left) }
 
-part-write-between-end : tie.Need-part-write-between-end
-part-write-between-end c = search needs
+slice-aggregate-write-between : tie.Need-slice-aggregate-write-between
+slice-aggregate-write-between c = sym (lent-long _ _ (c .before .before .before .before .before .before .before .before .before .before .before .pre .2))
 
 write-between-requires : tie.Need-write-between-requires
 write-between-requires c κs =
     let p = c .before .before .before .before .before .before .before .before .before .before .before .before .pre in (
-      lent-room _ _ _ (p .2) _ _ _ (omega (arith, p .1 .few)) (p .0 .holds .long) (p .1 .few) (p .0 .holds .few),
+      lent-room _ _ (p .2) _ _ (p .0 .holds .long) (p .1 .few) (p .0 .holds .few),
       p .0 .reduced,
       p .0 .inside,
       select-some _ _ _ _ (c .before .before .before .before .descend .ensures) .below,
@@ -48,5 +48,5 @@ pub write-extent-spec : {M : Type 1} → statement M
 write-extent-spec =
     tie.close
     (tie.spec (λ c κs. search needs) (λ c. search needs) returns (λ c. search needs) add-last (λ c κs. search needs) (λ c κs. search needs)
-    (λ c. search needs) (λ c. search needs) (λ c. search needs) (λ c. search needs) (λ c. search needs) (λ c. search needs)
-    (λ c. search needs) part-write-between-end write-between-requires (λ c. search needs) (λ c. search needs) returns-2)
+    (λ c. search needs) (λ c. search needs) (λ c. search needs) slice-aggregate-write-between write-between-requires (λ c. search needs)
+    (λ c. search needs) returns-2)
