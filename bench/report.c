@@ -7,7 +7,7 @@
 
 /* Of instructions, ours / plain C. */
 #define BAR 1.3
-#define PART_WRITE_BAR 1.6
+#define PART_WRITE_BAR 1.5
 #define LIST_BAR 1.5
 #define TWO_BAR 2.5
 
