@@ -10,9 +10,10 @@ use Rattle.words.proofs.Laws.{no-words, put-next, length-wordsOver}
 use Rattle.diagram.specs.Meaning.{under}
 use Rattle.diagram.specs.Count.{countBelow}
 use Rattle.lists.specs.Operations.{setupAt}
-use Rattle.lists.specs.Inner.{Rising, Trail, Resumes, Reaches}
+use Rattle.trail.specs.Inner.{Trail, Resumes, Reaches}
+use Rattle.lists.specs.Inner.{Rising}
 use Rattle.lists.proofs.Ranks.{setup-is}
-use Rattle.lists.proofs.Keeping.{trail-rise}
+use Rattle.trail.proofs.Keeping.{trail-rise}
 
 -- the setups of the ranks
 abbrev found : List ℕ → List ℕ → ℕ → ℕ → ℕ → ℕ

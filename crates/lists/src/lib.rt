@@ -1,6 +1,5 @@
 // The setups of a list of ranks, in one call. It has no `requires`.
 mod order;
-mod trail;
 
 ghost use mathlib.Core.Path.{_≡_};
 ghost use Prim.Native.Nat.{ℕ, _+_, _*_, _<_, _≤_, _^_};

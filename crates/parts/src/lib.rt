@@ -39,8 +39,8 @@ fn write_extent(
     }
     let first = extent.start.0;
     let last = first + (extent.size - 1);
-    let lo = ranking::descend(table, sheet, n, root, Rank(first));
-    let hi = ranking::descend(table, sheet, n, root, Rank(last));
+    let lo = descent::descend(table, sheet, n, root, Rank(first));
+    let hi = descent::descend(table, sheet, n, root, Rank(last));
     let end = 8 * (nodes + 512);
     writing::write_between(
         table,

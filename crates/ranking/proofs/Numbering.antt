@@ -1,5 +1,5 @@
 -- Demand 2, as theorems: ranking and unranking undo each other, ranks rise with the setups, and the numbers below the count are just those that are unranked. Assumes nothing.
-use Prim.Native.Nat.{ℕ, _^_, _<_}
+use Prim.Native.Nat.{ℕ, _-_, _*_, _/_, _^_, _≤_, _<_}
 use mathlib.Core.Path.{_≡_, refl, ap, _∙_}
 use mathlib.Core.Bool.{Bool, true, false, cond}
 use mathlib.Core.List.{List}
@@ -17,6 +17,8 @@ use Rattle.diagram.proofs.CountLaws.{count-mono-lt}
 use Rattle.diagram.proofs.AnswerLaws.{refused-not, value-inj, then-some}
 use Rattle.diagram.proofs.Select.{Selected, select-some, select-of, ranked}
 use Rattle.checking.specs.Operations.{checking, testSetup}
+use Rattle.descent.specs.Settings.{IsLeft}
+use Rattle.descent.proofs.Settings.{selected-left}
 use Rattle.ranking.specs.Operations.{rankSetup, ranking, orTooHigh, unrankSetup, unranking}
 
 -- setup x has rank r in table t: it is below 2 ^ n, permitted, and exactly r smaller ones are
@@ -97,3 +99,11 @@ unfolding total
 unrank-only t s x r e =
     let a = unranked-has t s x r e in
     omega (arith, a .rank, count-mono-lt (permitted (wordAt t)) (a .passes) (a .below))
+
+-- of unranking: after the first p settings of the answer, for each p from 0 to n
+pub unranked-left : (t s : List ℕ) (x r : ℕ) → unranking t r s ≡ value x → (p : ℕ) → p ≤ settings (wordAt t)
+    → let h = settings (wordAt t) - p in (left : ℕ) × IsLeft (permitted (wordAt t)) (settings (wordAt t)) r h (x / 2 ^ h) left
+unranked-left t s x r e p l =
+    let w = wordAt t in
+    let h = settings w - p in
+    (r - countBelow (permitted w) (x / 2 ^ h * 2 ^ h), selected-left (permitted w) (settings w) r x (unranked-has t s x r e) h (omega arith))

@@ -1,12 +1,4 @@
 // The operations rank and unrank: a permitted setup's number, and the setup of a number. Neither has a `requires`.
-mod descent;
-mod smaller;
-
-pub use descent::Below;
-pub use descent::Way;
-pub use descent::advance;
-pub use descent::descend;
-pub use descent::look_below;
 ghost use mathlib.Core.Path.{_≡_};
 ghost use Prim.Native.Nat.{_+_};
 ghost use Rattle.words.specs.Words.{wordAt};

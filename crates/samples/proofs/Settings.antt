@@ -5,7 +5,7 @@ use Rattle.words.specs.Words.{beAt, wordAt, bytesOf}
 use Rattle.diagram.specs.Format.{highField, middleField, lowField, root, height, thenEdge, elseEdge}
 use Rattle.diagram.specs.Meaning.{bit, branch, flip, holds, plain, under, permitted}
 use Rattle.diagram.specs.Count.{indicator, countBelow}
-use Rattle.ranking.specs.Settings.{countBeginning}
+use Rattle.descent.specs.Settings.{countBeginning}
 use Rattle.samples.specs.Samples.{table, A, All}
 use Rattle.samples.specs.Settings.{settingSamples}
 

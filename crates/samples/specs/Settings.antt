@@ -3,7 +3,7 @@ use mathlib.Core.Path.{_≡_}
 use mathlib.Core.List.{List, [], _∷_}
 use Rattle.words.specs.Words.{wordAt}
 use Rattle.diagram.specs.Meaning.{permitted}
-use Rattle.ranking.specs.Settings.{countBeginning, IsLeft}
+use Rattle.descent.specs.Settings.{countBeginning, IsLeft}
 use Rattle.samples.specs.Samples.{A}
 
 -- nothing chosen yet, then 1, 11 and 111: 5, 1, 0 and 0 are left; how many setups begin so, and with a 0 in place of the last 1

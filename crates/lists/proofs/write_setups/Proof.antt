@@ -4,8 +4,8 @@ use mathlib.Core.Path.{_≡_}
 use native.Mathlib.Omega.{arith}
 use lib.ListN.{length}
 use borrow.Author.Needs.{needs}
-use Rattle.lists.specs.Inner.{Trail}
-use Rattle.lists.proofs.Resuming.{trail-first}
+use Rattle.trail.specs.Inner.{Trail}
+use Rattle.trail.proofs.Resuming.{trail-first}
 use Rattle.lists.proofs.Serving.{Serves, serves-first, serves-long, serves-all, serves-resumes, serves-next}
 use Rattle.lists.proofs.write_setups.Statement.{statement}
 use Rattle.lists.proofs.write_setups.Tie as tie

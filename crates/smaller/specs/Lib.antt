@@ -1,0 +1,2 @@
+-- How many smaller setups an edge permits.
+pub mod Inner

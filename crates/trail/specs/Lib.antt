@@ -1,0 +1,2 @@
+-- The way down to a rank, kept for the next one.
+pub mod Inner
