@@ -1,3 +1,2 @@
--- The laws of answers in three words, and what holds of operations one after another.
-pub mod Telling
+-- What holds of operations one after another.
 pub mod Dividing

@@ -1,2 +1,2 @@
--- Answers for C.
-pub mod Told
+-- What C is promised, where an equation with a definition does not say it.
+pub mod Combines

@@ -1,6 +1,4 @@
 // The setup book for a C program: numbers and byte memory in; out comes one packed number, or a number and three words. include/setupbook.h declares these functions.
-mod told;
-
 ghost use mathlib.Core.Path.{_≡_};
 ghost use Prim.Native.Nat.{ℕ};
 ghost use lib.ListN.{length};
@@ -12,7 +10,8 @@ ghost use Rattle.lists.specs.Operations.{items, unrankingList, setupsAfter};
 ghost use Rattle.tables.specs.Writing.{lengthOf};
 ghost use Rattle.parts.specs.Operations.{partWriting, Promise};
 ghost use Rattle.combining.specs.declared.Operation.the-variants.{Joined, Shared, Without};
-ghost use Rattle.console.specs.Told.{single, foundWords, returned, told, Combines};
+ghost use Rattle.telling.specs.Told.{single, foundWords, returned, told};
+ghost use Rattle.console.specs.Combines.{Combines};
 use combining::Operation;
 use diagram::Rank;
 use diagram::Setup;
@@ -60,7 +59,7 @@ pub extern "C" fn setupbook_ruled_out(
         × (now (sheet .exit) ≡ blank (now (table .entry)) (now (sheet .entry))) ⌝ }
 {
     let found = exclusion::ruled_out(table, Setup(setup), sheet);
-    told::tell_found(found, answer)
+    telling::tell_found(found, answer)
 }
 
 // The setups of a list of ranks: how many.
@@ -79,8 +78,8 @@ pub extern "C" fn setupbook_unrank_list(
 {
     let listed = lists::unrank_list(table, ranks, sheet, setups);
     match listed {
-        Listed::Items(m) => told::tell(m as u64, 0, 0, answer),
-        Listed::Refused(r) => told::tell_refusal(r, 0, answer),
+        Listed::Items(m) => telling::tell(m as u64, 0, 0, answer),
+        Listed::Refused(r) => telling::tell_refusal(r, 0, answer),
     }
 }
 
@@ -119,7 +118,7 @@ fn combine(
         r (now (answer .exit)) (now (sheet1 .exit)) (now (sheet2 .exit)) (now (pairs .exit)) (now (out .exit)) ⌝ }
 {
     let combined = combining::combine(op, table1, sheet1, table2, sheet2, pairs, out);
-    told::tell_combined(combined, answer)
+    telling::tell_combined(combined, answer)
 }
 
 // The setups of either of two tables.

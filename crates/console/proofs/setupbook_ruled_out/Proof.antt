@@ -1,7 +1,7 @@
 -- `console::setupbook_ruled_out` meets its contract. Assumes nothing.
 use mathlib.Core.Path.{ap, _∙_}
 use borrow.Author.Needs.{needs}
-use Rattle.console.specs.Told.{foundWords, returned, told}
+use Rattle.telling.specs.Told.{foundWords, returned, told}
 use Rattle.console.proofs.setupbook_ruled_out.Statement.{statement}
 use Rattle.console.proofs.setupbook_ruled_out.Tie as tie
 

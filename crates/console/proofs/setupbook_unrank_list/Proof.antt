@@ -2,7 +2,7 @@
 use mathlib.Core.Path.{ap}
 use borrow.Author.Needs.{needs}
 use Rattle.lists.specs.Answers.{listedAs}
-use Rattle.console.proofs.Telling.{told-value, told-refusal}
+use Rattle.telling.proofs.Telling.{told-value, told-refusal}
 use Rattle.console.proofs.setupbook_unrank_list.Statement.{statement}
 use Rattle.console.proofs.setupbook_unrank_list.Tie as tie
 

@@ -4,7 +4,7 @@ ghost use mathlib.Core.List.{[], _∷_};
 ghost use Rattle.rules.specs.Refusals.{numberOf, placeOf};
 ghost use Rattle.exclusion.specs.Answers.{foundAs};
 ghost use Rattle.combining.specs.Answers.{combinedAs};
-ghost use Rattle.console.specs.Told.{foundWords, returned, told, toldOf};
+ghost use Rattle.telling.specs.Told.{foundWords, returned, told, toldOf};
 use combining::Combined;
 use exclusion::RuledOut;
 use rules::Refusal;

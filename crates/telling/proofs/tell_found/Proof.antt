@@ -1,11 +1,11 @@
--- `console::told::tell_found` meets its contract: case by case. Assumes nothing.
+-- `telling::tell_found` meets its contract: case by case. Assumes nothing.
 use mathlib.Core.Path.{refl, ap}
 use borrow.Author.Needs.{needs}
 use Rattle.exclusion.specs.Answers.{foundAs}
-use Rattle.console.specs.Told.{foundWords}
-use Rattle.console.proofs.Telling.{told-value, told-refusal}
-use Rattle.console.proofs.told.tell_found.Statement.{statement}
-use Rattle.console.proofs.told.tell_found.Tie as tie
+use Rattle.telling.specs.Told.{foundWords}
+use Rattle.telling.proofs.Telling.{told-value, told-refusal}
+use Rattle.telling.proofs.tell_found.Statement.{statement}
+use Rattle.telling.proofs.tell_found.Tie as tie
 
 returns : tie.Need-returns
 unfolding foundWords

@@ -4,7 +4,7 @@ use mathlib.Core.Path.{_≡_, sym, ap, _∙_}
 use mathlib.Core.List.{List, [], _∷_}
 use Rattle.diagram.specs.Answer.{Answer, value, refusal}
 use Rattle.combining.specs.Operations.{Reply}
-use Rattle.console.specs.Told.{single, returned, told, toldOf}
+use Rattle.telling.specs.Told.{single, returned, told, toldOf}
 
 -- b is the code's answer to what a defines; r is returned, and the words are left
 module _ {A : Type 0} (f : A → List ℕ) (a b : Answer A) (is : b ≡ a) (r : ℕ) (words : List ℕ) where

@@ -1,12 +1,9 @@
 -- An answer for C as a number returned and the three words of `answer`. Assumes nothing.
 use Prim.Native.Nat.{ℕ}
-use mathlib.Core.Path.{_≡_}
 use mathlib.Core.List.{List, [], _∷_}
 use mathlib.Core.Option.{none, some}
 use Rattle.diagram.specs.Answer.{Answer, value, refusal}
 use Rattle.exclusion.specs.Finding.{Finding, isPermitted, ruledOut}
-use Rattle.combining.specs.declared.Operation.{Operation}
-use Rattle.combining.specs.Operations.{Reply, Promise}
 
 -- three words, of which only the first is used
 abbrev pub single : ℕ → List ℕ
@@ -32,10 +29,3 @@ told f (refusal number place) = single place
 unfoldable pub toldOf : ℕ → Answer ℕ → List ℕ
 toldOf table (value v) = single v
 toldOf table (refusal number place) = place ∷ table ∷ 0 ∷ []
-
--- a function for C that makes two tables into one: it keeps the promise, and returns and tells what is answered
-pub record Combines (op : Operation) (table1 sheet1 table2 sheet2 pairs out : List ℕ) (r : ℕ) (answer sheet1′ sheet2′ pairs′ out′ : List ℕ) : Type 0 where
-  pub reply : Reply ℕ
-  pub keeps : Promise op table1 sheet1 table2 sheet2 pairs out reply sheet1′ sheet2′ pairs′ out′
-  pub returns : r ≡ returned (reply .1)
-  pub tells : answer ≡ toldOf (reply .0) (reply .1)

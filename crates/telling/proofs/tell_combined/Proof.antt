@@ -1,10 +1,10 @@
--- `console::told::tell_combined` meets its contract: case by case. Assumes nothing.
+-- `telling::tell_combined` meets its contract: case by case. Assumes nothing.
 use mathlib.Core.Path.{ap}
 use borrow.Author.Needs.{needs}
 use Rattle.combining.specs.Answers.{combinedAs}
-use Rattle.console.proofs.Telling.{told-bytes, told-fault}
-use Rattle.console.proofs.told.tell_combined.Statement.{statement}
-use Rattle.console.proofs.told.tell_combined.Tie as tie
+use Rattle.telling.proofs.Telling.{told-bytes, told-fault}
+use Rattle.telling.proofs.tell_combined.Statement.{statement}
+use Rattle.telling.proofs.tell_combined.Tie as tie
 
 returns : tie.Need-returns
 returns c = told-bytes _ _ _ _ (ap combinedAs (c .before .before .before .combined .given .1)) (c .tell .ensures)

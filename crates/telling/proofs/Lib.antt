@@ -1,0 +1,2 @@
+-- The laws of answers in three words.
+pub mod Telling

@@ -1,0 +1,2 @@
+-- Answers in three words.
+pub mod Told
