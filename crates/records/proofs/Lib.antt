@@ -1,5 +1,4 @@
 -- The laws of the records and of their names, in the terms of the code.
-pub mod RecordRules
 pub mod Levels
 pub mod Turns
 pub mod Marks

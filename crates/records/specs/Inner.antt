@@ -1,18 +1,14 @@
 -- What the inner functions know of the records, and of the marks of rule 9: for inner contracts only. Assumes nothing.
-use Prim.Native.Nat.{ℕ, suc, _-_, _%_, _<_}
+use Prim.Native.Nat.{ℕ, suc, _%_, _<_}
 use mathlib.Core.Path.{_≡_}
 use mathlib.Core.Bool.{cond}
 use mathlib.Core.List.{List}
-use lib.Dec.{eqb, ltb}
+use lib.Dec.{eqb}
 use lib.ListN.{length, getD}
 use Rattle.diagram.specs.Format.{Words, middleField, lowField}
 use Rattle.diagram.specs.Count.{indicator}
 use Rattle.diagram.specs.Answer.{Answer, refusal, pass, each}
 use Rattle.diagram.specs.Rules.{named, checkRecords}
-
--- the record before record k, or 0
-abbrev pub previous : Words → ℕ → ℕ
-previous w k = cond (ltb 1 k) (w (k - 1)) 0
 
 -- a record after `before` and below `limit`: its else-edge is below `low`, its then-edge plain, and they differ
 pub record InLevel (word before limit low : ℕ) : Type 0 where

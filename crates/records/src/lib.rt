@@ -1,7 +1,6 @@
 // The rules of the records: 4 to 8 of each, and 9 of all. They touch no lent memory.
 mod names;
 mod pass;
-mod record;
 
 ghost use mathlib.Core.Path.{_≡_};
 ghost use Prim.Native.Nat.{_+_, _*_, _≤_, _<_};

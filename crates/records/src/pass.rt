@@ -7,8 +7,8 @@ ghost use Rattle.words.specs.Words.{wordAt};
 ghost use Rattle.diagram.specs.Answer.{pass};
 ghost use Rattle.diagram.specs.Rules.{checkRecords};
 ghost use Rattle.rules.specs.Refusals.{verdictAs};
-ghost use Rattle.records.specs.Inner.{previous, InLevel, PassFrom, Marked};
-use crate::record;
+ghost use Rattle.faults.specs.Inner.{previous};
+ghost use Rattle.records.specs.Inner.{InLevel, PassFrom, Marked};
 use diagram::Edge;
 use diagram::Node;
 use diagram::Record;
@@ -99,7 +99,7 @@ pub fn check_records(table: &[u8], marks: &mut [u8], n: u64, nodes: usize) -> Ve
         k += 1;
         let before = word_before(table, k);
         let word = words::word_at(table, k);
-        let verdict = record::check_record(table, n, Node(k), word, before);
+        let verdict = faults::check_record(table, n, Node(k), word, before);
         let Verdict::Passed = verdict else {
             return verdict;
         };

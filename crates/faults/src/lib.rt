@@ -8,7 +8,7 @@ ghost use Rattle.words.specs.Words.{wordAt};
 ghost use Rattle.diagram.specs.Format.{height};
 ghost use Rattle.diagram.specs.Rules.{misled, checkRecord};
 ghost use Rattle.rules.specs.Refusals.{verdictAs};
-ghost use Rattle.records.specs.Inner.{previous};
+ghost use Rattle.faults.specs.Inner.{previous};
 use diagram::Edge;
 use diagram::Node;
 use diagram::Record;

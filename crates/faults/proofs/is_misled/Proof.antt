@@ -1,12 +1,12 @@
--- `records::record::is_misled` meets its contract. Assumes nothing.
+-- `faults::is_misled` meets its contract. Assumes nothing.
 use Prim.Native.Nat.{_<_}
 use mathlib.Core.Path.{sym, subst, _∙_}
 use borrow.Author.Needs.{needs}
 use borrow.Author.Tests.{le-leb, lt-leb}
 use Rattle.diagram.specs.Rules.{misled}
-use Rattle.records.proofs.RecordRules.{sink-below}
-use Rattle.records.proofs.record.is_misled.Statement.{statement}
-use Rattle.records.proofs.record.is_misled.Tie as tie
+use Rattle.faults.proofs.RecordRules.{sink-below}
+use Rattle.faults.proofs.is_misled.Statement.{statement}
+use Rattle.faults.proofs.is_misled.Tie as tie
 
 returns : tie.Need-returns
 returns c tall = sym (sink-below _ _ _ (subst (λ h. 0 < h) (c .before .before .before .before .pre .0) tall) (sym (c .before .before .node .ensures) ∙ c .if1 .taken))

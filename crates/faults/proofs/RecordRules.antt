@@ -12,7 +12,7 @@ use Rattle.diagram.specs.Rules.{misled, checkRecord}
 use Rattle.diagram.specs.Reading.{HasFields, IsRecord}
 use Rattle.diagram.proofs.Accept.{fits}
 use Rattle.diagram.proofs.Fields.{fields-record}
-use Rattle.records.specs.Inner.{previous}
+use Rattle.faults.specs.Inner.{previous}
 
 -- an edge to the sink leads below any record of some height
 pub sink-below : (w : Words) (k e : ℕ) → 0 < height w k → e / 2 ≡ 0 → misled w k e ≡ false

@@ -1,7 +1,7 @@
--- `records::record::is_unfit` meets its contract. Assumes nothing.
+-- `faults::is_unfit` meets its contract. Assumes nothing.
 use borrow.Author.Tests.{eq-eqb, ne-eqb}
-use Rattle.records.proofs.record.is_unfit.Statement.{statement}
-use Rattle.records.proofs.record.is_unfit.Tie as tie
+use Rattle.faults.proofs.is_unfit.Statement.{statement}
+use Rattle.faults.proofs.is_unfit.Tie as tie
 
 returns : tie.Need-returns
 returns c = rw (eq-eqb _ _ (c .if1 .taken))

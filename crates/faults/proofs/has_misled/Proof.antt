@@ -1,8 +1,8 @@
--- `records::record::has_misled` meets its contract. Assumes nothing.
+-- `faults::has_misled` meets its contract. Assumes nothing.
 use mathlib.Core.Path.{sym, _∙_}
 use borrow.Author.Needs.{needs}
-use Rattle.records.proofs.record.has_misled.Statement.{statement}
-use Rattle.records.proofs.record.has_misled.Tie as tie
+use Rattle.faults.proofs.has_misled.Statement.{statement}
+use Rattle.faults.proofs.has_misled.Tie as tie
 
 returns : tie.Need-returns
 returns c tall = rw (sym (c .before .is-misled .ensures tall) ∙ c .if1 .taken)

@@ -1,4 +1,4 @@
--- `records::record::check_record` meets its contract: rules 4 to 8 in their order. Assumes nothing.
+-- `faults::check_record` meets its contract: rules 4 to 8 in their order. Assumes nothing.
 use Prim.Native.Nat.{_%_}
 use mathlib.Core.Path.{_≡_, refl, sym, _∙_}
 use mathlib.Core.Bool.{cond}
@@ -8,9 +8,9 @@ use borrow.Author.Tests.{eq-eqb, ne-eqb}
 use Rattle.words.specs.Words.{wordAt}
 use Rattle.diagram.specs.Answer.{refusal, pass}
 use Rattle.diagram.specs.Rules.{checkRecord}
-use Rattle.records.proofs.RecordRules.{fields-of, by-tests}
-use Rattle.records.proofs.record.check_record.Statement.{statement}
-use Rattle.records.proofs.record.check_record.Tie as tie
+use Rattle.faults.proofs.RecordRules.{fields-of, by-tests}
+use Rattle.faults.proofs.check_record.Statement.{statement}
+use Rattle.faults.proofs.check_record.Tie as tie
 
 has-misled-requires : tie.Need-has-misled-requires
 has-misled-requires c κs =

@@ -1,0 +1,2 @@
+-- The rules of one record, in the terms of the code.
+pub mod RecordRules

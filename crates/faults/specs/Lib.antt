@@ -1,0 +1,2 @@
+-- What the rules of one record know.
+pub mod Inner
