@@ -1,5 +1,4 @@
 -- The laws of making two tables into one.
-pub mod Readying
 pub mod Nodes
 pub mod Outcomes
 pub mod Promised

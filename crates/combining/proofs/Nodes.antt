@@ -16,9 +16,9 @@ use Rattle.pairing.proofs.Leading.{reached-parent}
 use Rattle.reducing.specs.Levels.{Loose, Named, Means}
 use Rattle.reducing.specs.Inner.{heightOf, edgeOf, resultOf}
 use Rattle.compiling.specs.Inner.{HoldsDiagram}
-use Rattle.combining.specs.declared.Operation.{Operation}
-use Rattle.combining.specs.Combination.{names, combination}
-use Rattle.combining.specs.Inner.{AllReady}
+use Rattle.naming.specs.declared.Operation.{Operation}
+use Rattle.naming.specs.Combination.{names, combination}
+use Rattle.naming.specs.Inner.{AllReady}
 
 module _ (op : Operation) (t u : List ℕ) (n a b : ℕ) (W : ℕ → ℕ) (sheet : List ℕ) (P count : ℕ) (A : AllPairs t u n a b W P count)
     (Y : AllReady op (wordAt t) (wordAt u) W (wordAt sheet) P count) where

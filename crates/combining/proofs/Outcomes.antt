@@ -19,8 +19,8 @@ use Rattle.tables.specs.Table.{tableOf}
 use Rattle.tables.specs.Writing.{fitted, lengthOf, outAfter}
 use Rattle.tables.specs.Inner.{Writes}
 use Rattle.pairing.specs.Pairs.{pairCount}
-use Rattle.combining.specs.declared.Operation.{Operation}
-use Rattle.combining.specs.Combination.{combination}
+use Rattle.naming.specs.declared.Operation.{Operation}
+use Rattle.naming.specs.Combination.{combination}
 use Rattle.combining.specs.Operations.{combineRoots, combineTables, beforePairs, pairsAfter}
 use Rattle.combining.specs.Inner.{Checks}
 

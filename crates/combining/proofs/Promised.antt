@@ -10,7 +10,7 @@ use Rattle.diagram.proofs.Accept.{check-accepted}
 use Rattle.diagram.proofs.Refusals.{check-refuses}
 use Rattle.checking.specs.Operations.{checkingFor, checking, blank}
 use Rattle.tables.specs.Writing.{lengthOf, outAfter}
-use Rattle.combining.specs.declared.Operation.{Operation}
+use Rattle.naming.specs.declared.Operation.{Operation}
 use Rattle.combining.specs.Operations.{ofTable, combineTables, combining, ifReached, beforePairs, pairsAfter, Promise}
 use Rattle.combining.specs.Inner.{Checks}
 

@@ -31,9 +31,9 @@ use Rattle.tables.proofs.Writes.{fitted-some, fitted-refusal, sixteen}
 use Rattle.tables.proofs.WritingLaws.{front-written}
 use Rattle.pairing.specs.Pairs.{pairCount}
 use Rattle.pairing.proofs.Exploring.{none-held}
-use Rattle.combining.specs.declared.Operation.{Operation}
-use Rattle.combining.specs.declared.Operation.the-variants.{Joined, Shared, Without}
-use Rattle.combining.specs.Combination.{names, combination}
+use Rattle.naming.specs.declared.Operation.{Operation}
+use Rattle.naming.specs.declared.Operation.the-variants.{Joined, Shared, Without}
+use Rattle.naming.specs.Combination.{names, combination}
 use Rattle.combining.specs.Operations.{Reply, ofTable, combineRoots, combineTables, combining, ifReached, beforePairs, pairsAfter, Promise}
 use Rattle.combining.proofs.Outcomes.{checked-diagram}
 use Rattle.combining.proofs.Promised.{passes-checked, of-none}

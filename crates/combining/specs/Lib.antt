@@ -1,5 +1,4 @@
 -- Two tables made into one.
-pub mod Combination
 pub mod Operations
 pub mod Answers
 pub mod Inner

@@ -13,8 +13,8 @@ use Rattle.checking.specs.Operations.{checking, blank}
 use Rattle.tables.specs.Table.{tableOf}
 use Rattle.tables.specs.Writing.{fitted, lengthOf, outAfter}
 use Rattle.pairing.specs.Pairs.{pairCount}
-use Rattle.combining.specs.declared.Operation.{Operation}
-use Rattle.combining.specs.Combination.{combination}
+use Rattle.naming.specs.declared.Operation.{Operation}
+use Rattle.naming.specs.Combination.{combination}
 
 -- an answer about two tables: the table that a refusal is of, 1 or 2, or 0 if it names none, and the answer
 abbrev pub Reply : Type 0 → Type 0

@@ -8,7 +8,7 @@ use Rattle.diagram.specs.Answer.{value}
 use Rattle.parts.specs.Calls.{Call, Kept}
 use Rattle.parts.specs.Division.{Division}
 use Rattle.parts.proofs.Dividing.{written-division}
-use Rattle.combining.specs.declared.Operation.{Operation}
+use Rattle.naming.specs.declared.Operation.{Operation}
 use Rattle.combining.specs.Operations.{combining}
 use Rattle.combining.proofs.Theorems.{result}
 

@@ -2,7 +2,7 @@
 use Prim.Native.Nat.{ℕ}
 use mathlib.Core.Path.{_≡_}
 use mathlib.Core.List.{List}
-use Rattle.combining.specs.declared.Operation.{Operation}
+use Rattle.naming.specs.declared.Operation.{Operation}
 use Rattle.combining.specs.Operations.{Reply, Promise}
 use Rattle.telling.specs.Told.{returned, toldOf}
 

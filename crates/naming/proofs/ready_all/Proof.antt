@@ -1,14 +1,14 @@
--- `combining::ready_all` meets its contract. The loop's invariant: the first i pairs are made ready (`AllReady`). Assumes nothing.
+-- `naming::ready_all` meets its contract. The loop's invariant: the first i pairs are made ready (`AllReady`). Assumes nothing.
 use Prim.Native.Nat.{_-_, _≤_}
 use mathlib.Core.Path.{_≡_, refl, _∙_}
 use native.Mathlib.Omega.{arith}
 use lib.ListN.{length}
 use borrow.Author.Needs.{needs}
 use Rattle.words.specs.Words.{wordAt}
-use Rattle.combining.specs.Inner.{AllReady}
-use Rattle.combining.proofs.Readying.{ready-none, ready-next}
-use Rattle.combining.proofs.ready_all.Statement.{statement}
-use Rattle.combining.proofs.ready_all.Tie as tie
+use Rattle.naming.specs.Inner.{AllReady}
+use Rattle.naming.proofs.Readying.{ready-none, ready-next}
+use Rattle.naming.proofs.ready_all.Statement.{statement}
+use Rattle.naming.proofs.ready_all.Tie as tie
 
 abbrev Inv-loop : tie.InvT-loop
 Inv-loop table1 table2 sheet₀ p count op i₀ sheet i = (i ≤ count) × (length sheet ≡ length sheet₀) × AllReady op (wordAt table1) (wordAt table2) (wordAt sheet₀) (wordAt sheet) p i

@@ -1,13 +1,13 @@
--- `combining::ready_pair` meets its contract. Assumes nothing.
+-- `naming::ready_pair` meets its contract. Assumes nothing.
 use Prim.Native.Nat.{_+_, _*_, _≤_}
 use mathlib.Core.Path.{_∙_}
 use native.Mathlib.Omega.{arith}
 use lib.ListN.{length}
 use borrow.Author.Needs.{needs}
 use Rattle.words.proofs.Stores.{stored, stored-long}
-use Rattle.combining.proofs.Readying.{readied-tall, readied-sink}
-use Rattle.combining.proofs.ready_pair.Statement.{statement}
-use Rattle.combining.proofs.ready_pair.Tie as tie
+use Rattle.naming.proofs.Readying.{readied-tall, readied-sink}
+use Rattle.naming.proofs.ready_pair.Statement.{statement}
+use Rattle.naming.proofs.ready_pair.Tie as tie
 
 pair-height-requires : tie.Need-pair-height-requires
 pair-height-requires c κs = rw (c .word-at .ensures) (c .before .before .before .before .before .pre .2)

@@ -10,9 +10,9 @@ use Rattle.words.proofs.Stores.{Updated}
 use Rattle.diagram.specs.Format.{Words}
 use Rattle.diagram.specs.Meaning.{flip}
 use Rattle.pairing.specs.Pairs.{firstEdge, secondEdge, pairHeight}
-use Rattle.combining.specs.declared.Operation.{Operation}
-use Rattle.combining.specs.Combination.{names}
-use Rattle.combining.specs.Inner.{IsFlag, Ready, Readied, AllReady}
+use Rattle.naming.specs.declared.Operation.{Operation}
+use Rattle.naming.specs.Combination.{names}
+use Rattle.naming.specs.Inner.{IsFlag, Ready, Readied, AllReady}
 
 -- a sink permits if its flag is 0
 sink-permits : (a : ℕ) → eqb a 0 ≡ flip a true

@@ -1,0 +1,2 @@
+-- The laws of pairs made ready to be numbered.
+pub mod Readying
