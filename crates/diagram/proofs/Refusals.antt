@@ -108,25 +108,25 @@ nine-headed bytes lent need place e = go (checkHeader bytes lent need) refl _ e
     go (refusal r p) q g e = let i : r ≡ 9 = cc in absurd (header-refuses bytes lent need r p q .0 i)
 
 -- 10 only where fewer places are lent than are needed
-pub ten-lent : (bytes : List ℕ) (lent : ℕ) (need : ℕ → ℕ) (place : ℕ) → check bytes lent need ≡ refusal 10 place → lent < need (nodes (wordAt bytes))
-unfolding check checkHeader checkDiagram
-ten-lent bytes lent need place e =
-    let w = wordAt bytes in
-    then-refuses Ten (checkHeader bytes lent need) _
-    (unless Ten (ltb (length bytes) 8) 1 0 (λ i. omega arith)
-    (unless Ten (ltb 65535 (nodes w)) 2 0 (λ i. omega arith)
-    (unless Ten (not (eqb (length bytes) (8 * (nodes w + 1)))) 1 0 (λ i. omega arith)
-    (unless Ten (not (eqb (root w / 2) (nodes w))) 3 0 (λ i. omega arith)
-    (few (ltb lent (need (nodes w))) refl)))))
-    (λ _ _. then-refuses Ten (checkDiagram w (settings w) (nodes w)) _
-    (then-refuses Ten (checkRecords w (settings w) (nodes w)) _ (λ r p q i. absurd (omega (arith, records-refuse w (settings w) (nodes w) r p q .0)))
-    λ _ _ r p q i. absurd (omega (arith, names-refuse w (nodes w) r p q .0)))
-    λ _ _. passes Ten (settings w, nodes w))
-    10 place e refl
-  where
-    Ten : ℕ → ℕ → Type 0
-    Ten number place = number ≡ 10 → lent < need (nodes (wordAt bytes))
+abbrev pub Ten : ℕ → ℕ → ℕ → ℕ → Type 0
+Ten lent needed number place = number ≡ 10 → lent < needed
 
-    few : (b : Bool) → ltb lent (need (nodes (wordAt bytes))) ≡ b → Refuses Ten (cond b (refusal 10 0) pass)
-    few true q = refuses Ten 10 0 (λ _. ltb-true lent (need (nodes (wordAt bytes))) q)
-    few false q = passes Ten tt
+pub ten-lent : (bytes : List ℕ) (lent : ℕ) (need : ℕ → ℕ) → Refuses (Ten lent (need (nodes (wordAt bytes)))) (check bytes lent need)
+unfolding check checkHeader checkDiagram
+ten-lent bytes lent need =
+    let w = wordAt bytes in
+    let m = need (nodes w) in
+    then-refuses (Ten lent m) (checkHeader bytes lent need) _
+    (unless (Ten lent m) (ltb (length bytes) 8) 1 0 (λ i. omega arith)
+    (unless (Ten lent m) (ltb 65535 (nodes w)) 2 0 (λ i. omega arith)
+    (unless (Ten lent m) (not (eqb (length bytes) (8 * (nodes w + 1)))) 1 0 (λ i. omega arith)
+    (unless (Ten lent m) (not (eqb (root w / 2) (nodes w))) 3 0 (λ i. omega arith)
+    (few m (ltb lent m) refl)))))
+    λ _ _. then-refuses (Ten lent m) (checkDiagram w (settings w) (nodes w)) _
+    (then-refuses (Ten lent m) (checkRecords w (settings w) (nodes w)) _ (λ r p q i. absurd (omega (arith, records-refuse w (settings w) (nodes w) r p q .0)))
+    λ _ _ r p q i. absurd (omega (arith, names-refuse w (nodes w) r p q .0)))
+    λ _ _. passes (Ten lent m) (settings w, nodes w)
+  where
+    few : (m : ℕ) (b : Bool) → ltb lent m ≡ b → Refuses (Ten lent m) (cond b (refusal 10 0) pass)
+    few m true q = refuses (Ten lent m) 10 0 (λ _. ltb-true lent m q)
+    few m false q = passes (Ten lent m) tt
