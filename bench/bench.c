@@ -16,6 +16,9 @@
 #define BUDDY_SECONDS 0.4
 #define TWO_SECONDS 0.1    /* a pass, for each condition on a row of two tables */
 #define BUDDY_TWO_SECONDS 0.3
+#define LOOSE_SECONDS 0.1  /* a pass, for each condition on a loose table */
+#define BUDDY_LOOSE_SECONDS 0.3
+#define DRAWN_TABLES 200   /* small loose ones that are compared */
 
 static FILE *opened(const char *path, const char *mode)
 {
@@ -27,12 +30,13 @@ static FILE *opened(const char *path, const char *mode)
 
 static void read_instructions(const char *path, struct results *r)
 {
-    unsigned w, op, side, lines = 0, all = 3 * OPERATIONS * SIDES + ROWS * SIDES;
+    unsigned w, op, side, lines = 0, all = (3 * OPERATIONS + ROWS + LOOSE) * SIDES, two = WORKLOADS, loose = two + ROWS;
     double count;
     FILE *f = opened(path, "r");
     for (; fscanf(f, "%u %u %u %lf", &w, &op, &side, &count) == 4; lines++) {
         if (w < WORKLOADS && op < OPERATIONS && side < SIDES) r->instructions[w][op][side] = count / COUNTED_CALLS;
-        if (w >= WORKLOADS && w < WORKLOADS + ROWS && side < SIDES) r->row_instructions[w - WORKLOADS][side] = count;
+        if (w >= two && w < loose && side < SIDES) r->row_instructions[w - two][side] = count;
+        if (w >= loose && w < loose + LOOSE && side < SIDES) r->loose_instructions[w - loose][side] = count;
     }
     fclose(f);
     if (lines == all) return;
@@ -63,6 +67,15 @@ static void time_rows(const struct results *r, double (*micros)[CONDITIONS][SIDE
 static void time_rows_buddy(const struct results *r, enum sizing sizing, double (*buddy)[BUDDY])
 {
     for (int i = 0; i < ROWS; i++) time_buddy_two(&r->row[i], sizing, BUDDY_TWO_SECONDS, buddy[i]);
+}
+
+/* One pass over the loose tables. */
+static void time_loose_rows(const struct results *r, double (*micros)[CONDITIONS][SIDES], double (*buddy)[BUDDY])
+{
+    for (int i = 0; i < LOOSE; i++) {
+        for (int c = 0; c < CONDITIONS; c++) time_loose(&r->loose[i].table, c, LOOSE_SECONDS, micros[i][c]);
+        time_buddy_loose(&r->loose[i].table, BUDDY_LOOSE_SECONDS, buddy[i]);
+    }
 }
 
 /* One pass over the tables of the plot. */
@@ -111,21 +124,44 @@ static void time_all(struct results *r, struct point *points)
     static double micros[PASSES][WORKLOADS][OPERATIONS][CONDITIONS][SIDES];
     double buddy[PASSES][WORKLOADS][BUDDY], lines[PASSES][POINTS * LINES], line[POINTS * LINES];
     double row_micros[PASSES][ROWS][CONDITIONS][SIDES], row_buddy[SIZINGS][PASSES][ROWS][BUDDY];
-    double row_full[PASSES][ROWS][SIDES];
+    double row_full[PASSES][ROWS][SIDES], loose_micros[PASSES][LOOSE][CONDITIONS][SIDES], loose_buddy[PASSES][LOOSE][BUDDY];
     for (int p = 0; p < PASSES; p++) {
         time_workloads(r, micros[p], buddy[p]);
         time_rows(r, row_micros[p], row_full[p]);
         for (int z = 0; z < SIZINGS; z++) time_rows_buddy(r, z, row_buddy[z][p]);
+        time_loose_rows(r, loose_micros[p], loose_buddy[p]);
         time_points(points);
         for (int i = 0; i < POINTS * LINES; i++) lines[p][i] = points[i / LINES].micros[i % LINES];
     }
     quietest(&micros[0][0][0][0][0], WORKLOADS * OPERATIONS * CONDITIONS, &r->micros[0][0][0][0]);
     quietest(&row_micros[0][0][0][0], ROWS * CONDITIONS, &r->row_micros[0][0][0]);
     quietest(&row_full[0][0][0], ROWS, &r->row_full[0][0]);
+    quietest(&loose_micros[0][0][0][0], LOOSE * CONDITIONS, &r->loose_micros[0][0][0]);
     best_for_buddy(buddy[0], WORKLOADS, r->buddy);
+    best_for_buddy(loose_buddy[0], LOOSE, r->loose_buddy);
     for (int z = 0; z < SIZINGS; z++) best_for_buddy(row_buddy[z][0], ROWS, r->row_buddy[z]);
     quietest(&lines[0][0], POINTS * LINES / SIDES, line);
     for (int i = 0; i < POINTS * LINES; i++) points[i / LINES].micros[i % LINES] = line[i];
+}
+
+/* Makes the tables and compares ours with plain C on them. */
+static void compare_all(struct results *r)
+{
+    for (int w = 0; w < WORKLOADS; w++) {
+        r->table[w] = workload(w);
+        r->calls += compare(&r->table[w]);
+    }
+    for (int i = 0; i < ALL_ROWS; i++) {
+        struct two w = row(i);
+        r->calls += compare_two(&w);
+        if (i < ROWS) r->row[i] = w;
+    }
+    for (int i = 0; i < ALL_LOOSE + DRAWN_TABLES; i++) {
+        struct loose l = i < ALL_LOOSE ? loose_row(i) : drawn(i);
+        r->calls += compare_loose(&l);
+        if (i < LOOSE) r->loose[i] = l;
+        else free_loose(&l);
+    }
 }
 
 int main(int argc, char **argv)
@@ -134,15 +170,7 @@ int main(int argc, char **argv)
     struct point points[POINTS];
     if (argc != 3) return fprintf(stderr, "usage: bench INSTRUCTIONS SVG\n"), 2;
     read_instructions(argv[1], &r);
-    for (int w = 0; w < WORKLOADS; w++) {
-        r.table[w] = workload(w);
-        r.calls += compare(&r.table[w]);
-    }
-    for (int i = 0; i < ALL_ROWS; i++) {
-        struct two w = row(i);
-        r.calls += compare_two(&w);
-        if (i < ROWS) r.row[i] = w;
-    }
+    compare_all(&r);
     time_all(&r, points);
     FILE *svg = opened(argv[2], "w");
     write_plot(svg, points, POINTS);

@@ -13,6 +13,7 @@ uint64_t plain_rank(T, uint64_t setup, S), plain_unrank(T, uint64_t rank, S);
 uint64_t plain_span_size(T, uint64_t k, uint64_t j, S), plain_part_write(T, uint64_t k, uint64_t j, S, O);
 uint64_t plain_ruled_out(T, uint64_t setup, S, uint64_t answer[3]);
 uint64_t plain_unrank_list(T, const uint8_t *ranks, size_t ranks_len, S, O, uint64_t answer[3]);
+uint64_t plain_make_proper(T, S, O, uint64_t answer[3]);
 #define TWO T, S, const uint8_t *table2, size_t table2_len, uint8_t *sheet2, size_t sheet2_len
 #define P uint8_t *pairs, size_t pairs_len
 uint64_t plain_join(TWO, P, O, uint64_t answer[3]), plain_share(TWO, P, O, uint64_t answer[3]);
@@ -25,8 +26,9 @@ uint64_t plain_without(TWO, P, O, uint64_t answer[3]);
 
 const char *operation_name(enum operation op)
 {
-    static const char *const names[] = {"check",       "count",         "test",      "rank",   "unrank", "span",   "part-write",
-                                        "list spread", "list in a row", "ruled out", "joined", "shared", "without"};
+    static const char *const names[] = {"check",       "count",       "test",          "rank",      "unrank",      "span",
+                                        "part-write",  "list spread", "list in a row", "ruled out", "make proper", "joined",
+                                        "shared",      "without"};
     return names[op];
 }
 
@@ -42,7 +44,8 @@ int is_of_part(enum operation op)
 
 size_t sheet_len_of(enum operation op, uint32_t count)
 {
-    return 8 * (op == PART_WRITE ? (size_t)count + 512 : (size_t)count + 1);
+    size_t records = count;
+    return 8 * (op == PART_WRITE ? records + 512 : op == MAKE_PROPER ? 8 * records + 512 : records + 1);
 }
 
 static uint64_t ours(enum operation op, const struct lent *m, struct numbers x)
@@ -57,6 +60,8 @@ static uint64_t ours(enum operation op, const struct lent *m, struct numbers x)
     case PART_WRITE:
         return setupbook_part_write(m->table, m->table_len, x.a, x.b, m->sheet, m->sheet_len, m->out, m->out_len);
     case RULED_OUT: return setupbook_ruled_out(m->table, m->table_len, x.a, m->sheet, m->sheet_len, m->answer);
+    case MAKE_PROPER:
+        return setupbook_make_proper(m->table, m->table_len, m->sheet, m->sheet_len, m->out, m->out_len, m->answer);
     default:
         return setupbook_unrank_list(m->table, m->table_len, m->ranks, m->ranks_len, m->sheet, m->sheet_len, m->out,
                                      m->out_len, m->answer);
@@ -75,6 +80,8 @@ static uint64_t plain(enum operation op, const struct lent *m, struct numbers x)
     case PART_WRITE:
         return plain_part_write(m->table, m->table_len, x.a, x.b, m->sheet, m->sheet_len, m->out, m->out_len);
     case RULED_OUT: return plain_ruled_out(m->table, m->table_len, x.a, m->sheet, m->sheet_len, m->answer);
+    case MAKE_PROPER:
+        return plain_make_proper(m->table, m->table_len, m->sheet, m->sheet_len, m->out, m->out_len, m->answer);
     default:
         return plain_unrank_list(m->table, m->table_len, m->ranks, m->ranks_len, m->sheet, m->sheet_len, m->out,
                                  m->out_len, m->answer);

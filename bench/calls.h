@@ -6,10 +6,10 @@
 #include <stddef.h>
 #include <stdint.h>
 
-/* OPERATIONS: those on one table. Then those on two. */
+/* OPERATIONS: those on one table that has to be proper. Then the one on a loose table, and those on two. */
 enum operation {
     CHECK, COUNT, TEST, RANK, UNRANK, SPAN, PART_WRITE, LIST_SPREAD, LIST_ROW, RULED_OUT, OPERATIONS,
-    JOINED = OPERATIONS, SHARED, WITHOUT
+    MAKE_PROPER = OPERATIONS, JOINED, SHARED, WITHOUT
 };
 enum side { OURS, PLAIN, SIDES };
 
@@ -17,8 +17,8 @@ enum side { OURS, PLAIN, SIDES };
 #define PART 3
 #define ITEMS 8192 /* numbers of the lists that are timed */
 
-/* The memories lent to a call. A list's setups go to the out memory; its answer, ruled-out's and that of an operation on
- * two tables have three words. Only the latter has a second table, its sheet and a pair sheet. */
+/* The memories lent to a call. A list's setups go to the out memory; its answer, ruled-out's, make-proper's and that of an
+ * operation on two tables have three words. Only the latter has a second table, its sheet and a pair sheet. */
 struct lent {
     const uint8_t *table;
     size_t table_len;
@@ -38,7 +38,7 @@ struct lent {
 };
 
 /* The numbers of a call: a setup or a rank in `a`; the number of parts and the part for span and
- * part-write; none for a list. */
+ * part-write; none for a list and for make-proper. */
 struct numbers {
     uint64_t a, b;
 };
@@ -47,7 +47,7 @@ const char *operation_name(enum operation op);
 int is_list(enum operation op);
 int is_of_part(enum operation op); /* span or part-write */
 
-/* The sheet for a table of N records: N + 1 places, and N + 512 for part-write. */
+/* The sheet for a table of N records: N + 1 places, N + 512 for part-write, and 8 * N + 512 for make-proper. */
 size_t sheet_len_of(enum operation op, uint32_t count);
 
 /* An operation on one table; one on two. */

@@ -177,6 +177,39 @@ unsigned compare(const struct table *t)
     return p.calls;
 }
 
+/* --- loose tables ---------------------------------------------------------------------------- */
+
+/* The out memory just long enough for the result, a byte longer, a byte too short and for nothing. */
+static void compare_out(const struct table *t, struct pair *p, size_t result)
+{
+    size_t lengths[] = {result, result + 1, result - 1, 0};
+    for (int i = 0; i < 4; i++) {
+        restore(t, p, MAKE_PROPER);
+        for (int side = 0; side < SIDES; side++) p->of[side].out_len = lengths[i];
+        compare_call(t, p, MAKE_PROPER, (struct numbers){i, 0});
+    }
+}
+
+unsigned compare_loose(const struct loose *l)
+{
+    const struct table *t = &l->table, *proper = &l->proper;
+    struct pair p = {{lend_loose(t), lend_loose(t)}, t->count, 0};
+    struct numbers none = {0, 0};
+    compare_call(t, &p, MAKE_PROPER, none);
+    size_t result = p.of[PLAIN].answer[0];
+    if (proper->bytes && (result != proper->len || memcmp(p.of[PLAIN].out, proper->bytes, result)))
+        stop(t, MAKE_PROPER, none, "what was written is not the proper table");
+    compare_out(t, &p, result > 8 ? result : 8);
+    for (int i = 0; i < DAMAGED && t->count > 0; i++) {
+        restore(t, &p, MAKE_PROPER);
+        damage(t, &p, MAKE_PROPER, i);
+        compare_call(t, &p, MAKE_PROPER, (struct numbers){i, 0});
+    }
+    give_back(&p.of[OURS]);
+    give_back(&p.of[PLAIN]);
+    return p.calls;
+}
+
 /* --- two tables ------------------------------------------------------------------------------ */
 
 static void stop_two(const struct two *w, int i, const char *what)

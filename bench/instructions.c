@@ -1,11 +1,13 @@
 /* The program that runs under callgrind: each operation of each side, COUNTED_CALLS times, with a dump
  * of its own that is named "workload operation side". Row r of two tables stands as workload
- * WORKLOADS + r and is called once: its calls are all alike. */
+ * WORKLOADS + r and loose table l as WORKLOADS + ROWS + l; these are called once: their calls are all
+ * alike. */
 #include "instructions.h"
 
 #include <stdio.h>
 #include <valgrind/callgrind.h>
 
+#include "loose.h"
 #include "memory.h"
 
 static void count_workload(enum workload w)
@@ -42,6 +44,22 @@ static void count_row(enum row r)
     give_back(&m);
 }
 
+static void count_loose(enum loose_row r)
+{
+    struct loose l = loose_row(r);
+    struct lent m = lend_loose(&l.table);
+    struct numbers none = {0, 0};
+    for (int side = 0; side < SIDES; side++) {
+        char name[64];
+        snprintf(name, sizeof name, "%d %d %d", WORKLOADS + ROWS + r, MAKE_PROPER, side);
+        CALLGRIND_ZERO_STATS;
+        call(side, MAKE_PROPER, &m, none);
+        CALLGRIND_DUMP_STATS_AT(name);
+    }
+    give_back(&m);
+    free_loose(&l);
+}
+
 int main(void)
 {
     CALLGRIND_START_INSTRUMENTATION;
@@ -49,5 +67,6 @@ int main(void)
     count_workload(MIDDLE);
     count_workload(WIDE);
     for (int r = 0; r < ROWS; r++) count_row(r);
+    for (int r = 0; r < LOOSE; r++) count_loose(r);
     return 0;
 }

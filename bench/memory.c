@@ -29,17 +29,28 @@ static const uint8_t *copy_of(const struct table *t)
     return memcpy(pages(t->len), t->bytes, t->len);
 }
 
-struct lent lend(const struct table *t)
+/* With a sheet that is long enough for this operation, and set for it. */
+static struct lent lend_sheet(const struct table *t, enum operation op)
 {
     struct lent m = {0};
     m.table = copy_of(t);
     m.table_len = t->len;
     m.ranks = pages(8 * ITEMS);
-    m.sheet = pages(sheet_len_of(PART_WRITE, t->count));
+    m.sheet = pages(sheet_len_of(op, t->count));
     m.out = pages(out_room(t));
     m.answer = (uint64_t *)pages(ANSWER);
-    lend_for(&m, PART_WRITE, t);
+    lend_for(&m, op, t);
     return m;
+}
+
+struct lent lend(const struct table *t)
+{
+    return lend_sheet(t, PART_WRITE);
+}
+
+struct lent lend_loose(const struct table *t)
+{
+    return lend_sheet(t, MAKE_PROPER);
 }
 
 /* ITEMS ascending numbers: drawn over the whole count, or neighbours in its middle. A small table's own are repeated. */

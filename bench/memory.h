@@ -7,8 +7,9 @@
 #define GUARD 64 /* bytes behind each memory; no call may touch those that it is not lent */
 #define ANSWER 24 /* bytes of an answer in three words */
 
-/* Memory for any operation on this table; the lengths lent and the list are set for one operation. */
+/* Memory for any operation on this table but make-proper; the lengths lent and the list are set for one operation. */
 struct lent lend(const struct table *t);
+struct lent lend_loose(const struct table *t); /* for make-proper */
 void lend_for(struct lent *m, enum operation op, const struct table *t);
 void give_back(struct lent *m);
 
@@ -17,7 +18,7 @@ struct lent lend_two(const struct two *w);
 void lend_for_two(struct lent *m, const struct two *w);
 size_t pairs_room(const struct two *w);
 
-/* The bytes of out memory: for every part of the table, and for ITEMS setups. */
+/* The bytes of out memory: for every part of the table, its proper table, and for ITEMS setups. */
 size_t out_room(const struct table *t);
 
 /* Numbers for a timed call: every rank is below C, every setup that is ranked is permitted, of those

@@ -10,9 +10,13 @@
 #define PART_WRITE_BAR 1.5
 #define LIST_BAR 1.5
 #define TWO_BAR 2.5
+#define PROPER_BAR 1.5
+#define LOOSE_BAR 2.0
 
 #define BUDDY_BAR 20.0
 #define BUDDY_TWO_BAR 1.0
+#define BUDDY_LOOSE_BAR 4.0
+#define GROWTH_BAR 1.5      /* ours a record at 65,535 / at 4,000 */
 #define SINGLE_BAR 300.0    /* single calls / the list */
 #define ROW_BAR (1.0 / 3.0) /* numbers in a row / spread */
 
@@ -207,6 +211,81 @@ static void print_two_bars(const struct results *r)
             snprintf(what, sizeof what, "%s BuDDy", sizing_names[z]);
             print_two_bar(&r->row[i], what, "≥", BUDDY_TWO_BAR, r->row_buddy[z][i][WHOLE] / r->row_buddy[z][i][BESIDE]);
         }
+    printf("\n");
+}
+
+static void print_loose_medians(const struct results *r)
+{
+    printf("## Loose tables made proper\n\n"
+           "Proper 65,535 is wide 65,535 as it is, and shuffled 65,535 the same with its records in random order, about half of them\n"
+           "turned, with the flags of all edges to them; the mixed table has repeats, unused records and equal edges too. N: records of\n"
+           "the loose table, N': of the proper one. Medians in µs a call, as above.\n\n"
+           "| table           |     N |    N' | ours warm | plain warm | ratio | ours cleared | plain cleared | ratio |\n"
+           "|-----------------|------:|------:|----------:|-----------:|------:|-------------:|--------------:|------:|\n");
+    for (int i = 0; i < LOOSE; i++) {
+        const double *a = r->loose_micros[i][WARM], *c = r->loose_micros[i][CLEARED];
+        printf("| %-15s | %5u | %5u | %9.2f | %10.2f | %5.2f | %12.2f | %13.2f | %5.2f |\n", r->loose[i].table.name,
+               r->loose[i].table.count, r->loose[i].proper.count, a[OURS], a[PLAIN], a[OURS] / a[PLAIN], c[OURS], c[PLAIN],
+               c[OURS] / c[PLAIN]);
+    }
+    printf("\n");
+}
+
+/* Instructions a record of the loose table. */
+static double a_record(const struct results *r, enum loose_row i, enum side side)
+{
+    return r->loose_instructions[i][side] / r->loose[i].table.count;
+}
+
+static void print_loose_instructions(const struct results *r)
+{
+    printf("Instructions a call, and a record of the loose table:\n\n"
+           "| table           |     ours |  plain C | ours a record | plain C a record | ratio |\n"
+           "|-----------------|---------:|---------:|--------------:|-----------------:|------:|\n");
+    for (int i = 0; i < LOOSE; i++) {
+        const double *a = r->loose_instructions[i];
+        printf("| %-15s | %8.0f | %8.0f | %13.1f | %16.1f | %5.2f |\n", r->loose[i].table.name, a[OURS], a[PLAIN],
+               a_record(r, i, OURS), a_record(r, i, PLAIN), a[OURS] / a[PLAIN]);
+    }
+    printf("\n");
+}
+
+static void print_loose_buddy(const struct results *r)
+{
+    printf("Beside BuDDy, in µs, as for count. Its whole job: putting the records in order of height, and loading them with bdd_ite\n"
+           "from the lowest up. Making: bdd_init and bdd_setvarnum, which the whole job does not count here either. Plain C / whole: its\n"
+           "time, cleared, of BuDDy's.\n\n"
+           "| table           |   making |    whole |     ours | whole / ours | with making / ours | plain C / whole |\n"
+           "|-----------------|---------:|---------:|---------:|-------------:|-------------------:|----------------:|\n");
+    for (int i = 0; i < LOOSE; i++) {
+        const double *b = r->loose_buddy[i], ours = b[BESIDE];
+        printf("| %-15s | %8.1f | %8.1f | %8.1f | %12.2f | %18.2f | %15.2f |\n", r->loose[i].table.name, b[MAKING], b[WHOLE], ours,
+               b[WHOLE] / ours, (b[WHOLE] + b[MAKING]) / ours, r->loose_micros[i][CLEARED][PLAIN] / b[WHOLE]);
+    }
+    printf("\n");
+}
+
+static void print_loose_bar(const struct results *r, enum loose_row i, const char *what, const char *bound, double bar,
+                            double measured)
+{
+    char named[64];
+    snprintf(named, sizeof named, "%s: %s", r->loose[i].table.name, what);
+    print_bar(operation_name(MAKE_PROPER), named, bound, bar, measured);
+}
+
+static void print_loose_bars(const struct results *r)
+{
+    print_bars_head("loose tables", "Instructions: ours / plain C. Growth: ours a record / ours a record of shuffled 4,000. BuDDy: "
+                                    "its whole job / ours.\n\n");
+    for (int i = 0; i < LOOSE; i++)
+        print_loose_bar(r, i, "instructions", i == PROPER || i == SHUFFLED ? "≤" : "", i == PROPER ? PROPER_BAR : LOOSE_BAR,
+                        r->loose_instructions[i][OURS] / r->loose_instructions[i][PLAIN]);
+    for (int i = SHUFFLED_16000; i <= SHUFFLED; i++)
+        print_loose_bar(r, i, "growth", i == SHUFFLED ? "≤" : "", GROWTH_BAR,
+                        a_record(r, i, OURS) / a_record(r, SHUFFLED_4000, OURS));
+    for (int i = 0; i < LOOSE; i++)
+        print_loose_bar(r, i, "BuDDy", i == SHUFFLED ? "≥" : "", BUDDY_LOOSE_BAR,
+                        r->loose_buddy[i][WHOLE] / r->loose_buddy[i][BESIDE]);
 }
 
 void print_report(const struct results *r)
@@ -221,6 +300,10 @@ void print_report(const struct results *r)
     print_two_full(r);
     print_two_instructions(r);
     print_two_buddy(r);
+    print_loose_medians(r);
+    print_loose_instructions(r);
+    print_loose_buddy(r);
     print_bars(r);
     print_two_bars(r);
+    print_loose_bars(r);
 }

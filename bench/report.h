@@ -3,6 +3,7 @@
 #define REPORT_H
 
 #include "buddy.h"
+#include "loose.h"
 #include "timing.h"
 
 struct results {
@@ -16,6 +17,10 @@ struct results {
     double row_full[ROWS][SIDES]; /* warm, with a pair sheet for just the pairs */
     double row_instructions[ROWS][SIDES];
     double row_buddy[SIZINGS][ROWS][BUDDY];
+    struct loose loose[LOOSE];
+    double loose_micros[LOOSE][CONDITIONS][SIDES];
+    double loose_instructions[LOOSE][SIDES];
+    double loose_buddy[LOOSE][BUDDY];
 };
 
 void print_report(const struct results *r);

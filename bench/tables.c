@@ -45,7 +45,7 @@ uint32_t else_of(const struct table *t, uint32_t k)
     return word_at(t->bytes, k) & EDGE;
 }
 
-static uint64_t word_of(uint64_t height, uint64_t then_edge, uint64_t else_edge)
+uint64_t word_of(uint64_t height, uint64_t then_edge, uint64_t else_edge)
 {
     return height << 58 | then_edge << 29 | else_edge;
 }

@@ -25,7 +25,8 @@ void put_word(uint8_t *bytes, size_t k, uint64_t word);
 
 void sort_words(uint64_t *words, size_t count);
 
-/* The fields of word k: its uppermost six bits, the then-edge and the else-edge. */
+/* A word of these fields; the fields of word k: its uppermost six bits, the then-edge and the else-edge. */
+uint64_t word_of(uint64_t height, uint64_t then_edge, uint64_t else_edge);
 uint32_t height_of(const struct table *t, uint32_t k);
 uint32_t then_of(const struct table *t, uint32_t k);
 uint32_t else_of(const struct table *t, uint32_t k);

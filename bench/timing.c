@@ -59,7 +59,7 @@ static void clear(const struct lent *m)
 
 static uint64_t call_any(enum side side, enum operation op, const struct lent *m, struct numbers x)
 {
-    return op < OPERATIONS ? call(side, op, m, x) : call_two(side, op, m);
+    return op < JOINED ? call(side, op, m, x) : call_two(side, op, m);
 }
 
 double reading(enum side side, enum operation op, enum condition c, const struct lent *m, const struct numbers *x,
@@ -114,9 +114,17 @@ void time_both(const struct table *t, enum operation op, enum condition c, doubl
     give_back(&m);
 }
 
+static const struct numbers none[2 * DRAWN];
+
+void time_loose(const struct table *t, enum condition c, double seconds, double *micros)
+{
+    struct lent m = lend_loose(t);
+    time_lent(MAKE_PROPER, c, &m, none, 1, seconds, micros);
+    give_back(&m);
+}
+
 void time_two(const struct two *w, enum condition c, enum room room, double seconds, double *micros)
 {
-    static const struct numbers none[2 * DRAWN];
     struct lent m = lend_two(w);
     if (room == JUST_ENOUGH) m.pairs_len = 32 * w->pairs;
     time_lent(w->op, c, &m, none, 1, seconds, micros);

@@ -20,6 +20,7 @@ enum room { TWICE, JUST_ENOUGH };
 
 /* Medians of both sides in microseconds a call, within about this many seconds. */
 void time_both(const struct table *t, enum operation op, enum condition c, double seconds, double *micros);
+void time_loose(const struct table *t, enum condition c, double seconds, double *micros);
 void time_two(const struct two *w, enum condition c, enum room room, double seconds, double *micros);
 
 #endif

@@ -1,6 +1,6 @@
 /*
- * The setup book: rank, unrank, also of a list, the settings that rule a setup out, part-write, and
- * two tables made into one, over reduced OBDDs with complement edges.
+ * The setup book: rank, unrank, also of a list, the settings that rule a setup out, part-write, two
+ * tables made into one, and a loose table made proper, over reduced OBDDs with complement edges.
  *
  * A table is a decision diagram over n settings (0 to 63) with N nodes (0 to 65,535) as a row of
  * N + 1 words of 64 bits, most significant byte first; docs/FORMAT.md has the fields. It permits
@@ -20,25 +20,31 @@
  * else-edges at that height, flags carried down, where an edge to a lower node stays as it is.
  * Equal pairs count once, pairs of two edges to the sink count too.
  *
+ * A loose table has its records in any order, with repeats, records that nothing leads to,
+ * complemented then-edges and equal edges; only heights fall along edges. Its root edge leads to any
+ * node. Made proper it is the one table over the same settings that permits the same setups, of N'
+ * nodes, at most N; a table is loose too, and is that table itself. All other calls take tables only.
+ *
  * A list is a row of numbers of 8 bytes, most significant byte first; up to seven spare bytes at
  * its end are ignored.
  *
  * Memory: `table` has table_len bytes and is only read, and so is the list `ranks`. `sheet` is a
- * work sheet of sheet_len bytes: 8 * (N + 1) are needed, as many as an accepted table has, and for
- * part-write 8 * (N + 512). `out` receives the part or the result: 8 * (N' + 1) of its out_len
- * bytes are needed. `pairs` is the pair sheet: 32 bytes a pair are needed. `setups` receives a list
- * of as many items as `ranks` has. These memories share no byte, but two tables may be the same one
- * or overlap, and nobody else writes them during a call. No pointer is null; none needs an
- * alignment but `answer`, that of its numbers. Lengths and contents may be any: there is nothing to
- * check before a call. A call allocates nothing, keeps nothing and takes about 70 KiB of stack.
+ * work sheet of sheet_len bytes: 8 * (N + 1) are needed, as many as an accepted table has, for
+ * part-write 8 * (N + 512), and for a loose table 8 * (8 * N + 512). `out` receives the part or the
+ * result: 8 * (N' + 1) of its out_len bytes are needed. `pairs` is the pair sheet: 32 bytes a pair
+ * are needed. `setups` receives a list of as many items as `ranks` has. These memories share no byte,
+ * but two tables may be the same one or overlap, and nobody else writes them during a call. No
+ * pointer is null; none needs an alignment but `answer`, that of its numbers. Lengths and contents
+ * may be any: there is nothing to check before a call. A call allocates nothing, keeps nothing and
+ * takes about 70 KiB of stack.
  *
  * Sheet afterwards: unchanged by refusals 1 to 8, and 10. After everything else, a result or a
- * refusal, the words that the call requires are zero: N + 1, and N + 512 for part-write. All
- * other bytes are unchanged. No call depends on what the sheet held before. With two tables each
- * sheet is as its own table's check leaves it, so sheet1 is zero where table2 is refused, and
- * sheet2 is unchanged where table1 is. `pairs` is unchanged by a table's refusal and by 19; after
- * everything else all its pairs_len / 8 words are zero, and up to seven bytes behind them
- * unchanged.
+ * refusal, the words that the call requires are zero: N + 1, N + 512 for part-write, and 8 * N + 512
+ * for a loose table. All other bytes are unchanged. No call depends on what the sheet held before.
+ * With two tables each sheet is as its own table's check leaves it, so sheet1 is zero where table2
+ * is refused, and sheet2 is unchanged where table1 is. `pairs` is unchanged by a table's refusal and
+ * by 19; after everything else all its pairs_len / 8 words are zero, and up to seven bytes behind
+ * them unchanged.
  *
  * Out memory and `setups` afterwards: the part, or the setups, in front, if they were written; all
  * other bytes are unchanged.
@@ -53,15 +59,17 @@
  *      1  table_len is under 8
  *      2  N is above 65,535
  *      1  table_len is not 8 * (N + 1)
- *      3  the root edge does not lead to node N
- *     10  sheet_len is under 8 * (N + 1), or for part-write under 8 * (N + 512)
+ *      3  the root edge does not lead to node N; of a loose table: it leads to a node above N
+ *     10  sheet_len is under 8 * (N + 1), for part-write under 8 * (N + 512), for a loose table under
+ *         8 * (8 * N + 512)
  *         then for record 1, record 2, ... to N:
  *      4    its height is 0 or above n
- *      6    an edge leads to a node not below k, or to a height not below its own
- *      5    it is not above the record before it, as an unsigned number
- *      7    its then-edge is complemented
- *      8    its two edges are equal
- *      9  no record has an edge to record k, which is below N; the lowest such k
+ *      6    an edge leads to a node not below k, or to a height not below its own; of a loose table:
+ *           to a node above N, or to a height not below its own
+ *      5    it is not above the record before it, as an unsigned number (*)
+ *      7    its then-edge is complemented (*)
+ *      8    its two edges are equal (*)
+ *      9  no record has an edge to record k, which is below N; the lowest such k (*)
  *     12  rank, ruled out: the setup is 2^n or more
  *     13  rank: the setup is not permitted
  *     18  unrank a list: `setups` has fewer items than `ranks`
@@ -71,7 +79,8 @@
  *     19  two tables: their n differ
  *     20  two tables: pairs_len is under 32 bytes for each pair
  *     16  part-write, two tables: the part or the result needs more than 65,535 nodes
- *     11  part-write, two tables: out_len is under 8 * (N' + 1)
+ *     11  part-write, two tables, loose table: out_len is under 8 * (N' + 1)
+ * (*) not asked of a loose table
  */
 #ifndef SETUPBOOK_H
 #define SETUPBOOK_H
@@ -134,13 +143,26 @@ uint64_t setupbook_without(const uint8_t *table1, size_t table1_len,
                            uint8_t *pairs, size_t pairs_len, uint8_t *out, size_t out_len,
                            uint64_t answer[3]);
 
+/* Writes to `out` the proper table of a loose one. answer[0] is its length in bytes, at most
+ * table_len. Refusals 1, 2, 3, 10, 4, 6, 11. */
+uint64_t setupbook_make_proper(const uint8_t *table, size_t table_len,
+                               uint8_t *sheet, size_t sheet_len, uint8_t *out, size_t out_len,
+                               uint64_t answer[3]);
+
 /* The length of the longest table, N = 65,535: out memory that is never too short. */
 #define SETUPBOOK_LONGEST 524288
 
-/* The sheet that serves an accepted table of this length in every call: N + 512 words. */
+/* The sheet that serves an accepted table of this length in every call but setupbook_make_proper:
+ * N + 512 words. */
 static inline size_t setupbook_sheet_len(size_t table_len)
 {
     return table_len + 4088;
+}
+
+/* The sheet that serves a loose table of this length in setupbook_make_proper: 8 * N + 512 words. */
+static inline size_t setupbook_loose_sheet_len(size_t table_len)
+{
+    return 8 * table_len + 4032;
 }
 
 /* 1 if a packed answer is a refusal, 0 if it is a result. */

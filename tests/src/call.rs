@@ -16,6 +16,7 @@ pub enum Call<'a> {
     SpanStart { k: u64, j: u64 },
     SpanSize { k: u64, j: u64 },
     PartWrite { k: u64, j: u64 },
+    MakeProper,
 }
 
 impl<'a> Call<'a> {
@@ -23,6 +24,7 @@ impl<'a> Call<'a> {
     pub fn places(self, node_count: u64) -> u64 {
         match self {
             Call::PartWrite { .. } => node_count + 512,
+            Call::MakeProper => 8 * node_count + 512,
             _ => node_count + 1,
         }
     }

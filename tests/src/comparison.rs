@@ -76,6 +76,7 @@ impl Comparison {
         let filled = filled.map(|length| (Sheet::Of(0), length));
         self.tally.note(name_of(call), &expected.refusals, filled);
         self.tally.empty_between += u64::from(expected.empty_between);
+        self.tally.improper += u64::from(expected.improper);
         found
     }
 
@@ -107,6 +108,15 @@ impl Comparison {
         front(&outcome).to_vec()
     }
 
+    /// Makes a table proper, with a sheet and an out memory that are long enough. Gives back what
+    /// is written: an accepted table, by the paper.
+    pub fn made_proper(&mut self, table: &[u8]) -> Vec<u8> {
+        let written = front(&self.outcome_served(Call::MakeProper, table)).to_vec();
+        let refusals = paper::table_refusals(Call::Check, &written, usize::MAX);
+        assert!(refusals.is_empty(), "{refusals:?}");
+        written
+    }
+
     /// A call with a sheet and an out memory of these lengths and of random contents.
     pub fn compare_lengths(
         &mut self,
@@ -130,8 +140,9 @@ impl Comparison {
 
     /// The same, all in the same memories and each after a count, which leaves the counts there.
     pub fn compare_in_turn(&mut self, table: &[u8]) {
-        let part_write = Call::PartWrite { k: 1, j: 0 };
-        let sheet_len = sheets::served_length(&mut self.rng, sheets::needed(part_write, table));
+        // No call needs a longer sheet.
+        let needed = sheets::needed(Call::MakeProper, table);
+        let sheet_len = sheets::served_length(&mut self.rng, needed);
         let sheet = sheets::filling(&mut self.rng, sheet_len);
         let out = sheets::filling(&mut self.rng, table.len() + 100);
         let mut lent = self.lend(table, &sheet, &out);
@@ -144,6 +155,7 @@ impl Comparison {
     /// Makes calls of all operations, with numbers at the borders and random ones.
     fn each_call(&mut self, table: &[u8], mut make: impl FnMut(&mut Comparison, Call)) {
         let mut calls = vec![Call::Check, Call::Count];
+        calls.extend([Call::MakeProper; 2]);
         for setup in self.setups(table) {
             calls.extend([
                 Call::Test { setup },
@@ -244,7 +256,7 @@ pub fn first_difference(what: &str, by_paper: &[u8], by_library: &[u8]) -> Strin
     }
 }
 
-/// The part that a call has written; it has not been refused.
+/// The table that a call has written; it has not been refused.
 pub fn front(outcome: &Outcome) -> &[u8] {
     &outcome.out[..outcome.answer.value() as usize]
 }

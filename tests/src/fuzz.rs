@@ -22,8 +22,8 @@ use crate::tally::{
 };
 
 const LONGEST_TABLE: usize = raw::LONGEST + 8;
-/// The longest sheet: part-write's for the longest table, and some bytes more.
-const LONGEST_SHEET: usize = raw::LONGEST + 8 * 512 + 4096;
+/// The longest sheet: make-proper's for the longest table, and some bytes more.
+const LONGEST_SHEET: usize = 8 * raw::LONGEST + 8 * 512 + 4096;
 const LONGEST_OUT: usize = raw::LONGEST + 8 * 256 + 4096;
 /// The longest memories of a call on two tables; the longest tables may need longer ones.
 const LONGEST_OF_TWO: Memories<usize> = Memories {
@@ -52,12 +52,13 @@ impl fmt::Display for Report {
         writeln!(f, "{}", self.tally.lines())?;
         write!(
             f,
-            "seed {}: {}\naccepted tables: {}, of them raw bytes: {}\nempty parts between others: {}\n{:.1} s, {} differences",
+            "seed {}: {}\naccepted tables: {}, of them raw bytes: {}\nempty parts between others: {}\ntables made proper that were not: {}\n{:.1} s, {} differences",
             self.seed,
             self.tally.summary(),
             self.accepted,
             self.raw_accepted,
             self.tally.empty_between,
+            self.tally.improper,
             self.time.as_secs_f64(),
             self.differences
         )
@@ -132,34 +133,46 @@ impl Fuzz {
             _ => Guard::Before,
         };
         pages::set_under_way(number);
-        if rng.below(OPERATION_COUNT) < ONE_TABLE.len() as u64 {
-            self.call_on_one(&mut rng, guard)
-        } else {
-            self.call_on_two(&mut rng, guard)
+        match rng.below(OPERATION_COUNT) {
+            0 => {
+                let (table, is_raw) = self.source.loose_table(&mut rng);
+                self.call_on_one(&mut rng, guard, Call::MakeProper, &table, is_raw)
+            }
+            i if i < ONE_TABLE.len() as u64 => {
+                let (table, is_raw) = self.source.table(&mut rng);
+                let limit = 1 << table.first().map_or(0, |byte| byte / 4);
+                let list = list(&mut rng, limit);
+                let call = any_call(&mut rng, limit, List(&list));
+                self.call_on_one(&mut rng, guard, call, &table, is_raw)
+            }
+            _ => self.call_on_two(&mut rng, guard),
         }
     }
 
-    fn call_on_one(&mut self, rng: &mut Rng, guard: Guard) -> Result<(), String> {
-        let (table, is_raw) = self.source.table(rng);
-        let limit = 1 << table.first().map_or(0, |byte| byte / 4);
-        let list = list(rng, limit);
-        let call = any_call(rng, limit, List(&list));
-        let (sheet_len, out_len) = lengths(rng, call, &table);
+    fn call_on_one(
+        &mut self,
+        rng: &mut Rng,
+        guard: Guard,
+        call: Call,
+        table: &[u8],
+        is_raw: bool,
+    ) -> Result<(), String> {
+        let (sheet_len, out_len) = lengths(rng, call, table);
         let [sheet, out] = [sheet_len, out_len].map(|len| content(rng, &self.contents, len));
-        let expected = paper::expect(call, &table, sheet, out);
-        let filled = sheets::filled_length(sheet, sheets::needed(call, &table));
+        let expected = paper::expect(call, table, sheet, out);
+        let filled = sheets::filled_length(sheet, sheets::needed(call, table));
 
-        self.table.put(&table, guard);
+        self.table.put(table, guard);
         self.list.put(call.list().0, guard);
         self.sheet.put(sheet, guard);
         self.out.put(out, guard);
         let answer = self.lend(call);
         self.note(call, &expected, filled, is_raw);
-        self.compare(call, &table, answer, expected.outcome)
+        self.compare(call, table, answer, expected.outcome)
             .map_err(|text| {
                 format!(
                     "{}\n{text}",
-                    describe(self.seed, call, &table, sheet_len, out_len)
+                    describe(self.seed, call, table, sheet_len, out_len)
                 )
             })
     }
@@ -198,7 +211,10 @@ impl Fuzz {
         let filled = filled.map(|length| (Sheet::Of(0), length));
         self.tally.note(name_of(call), returned, filled);
         self.tally.empty_between += u64::from(expected.empty_between);
-        self.note_accepted(returned, 0, is_raw);
+        self.tally.improper += u64::from(expected.improper);
+        if call != Call::MakeProper {
+            self.note_accepted(returned, 0, is_raw);
+        }
     }
 
     /// Counts a table, the only one (0), the first or the second, if it has passed: what is returned
@@ -265,11 +281,11 @@ fn returned(refusals: &[Refusal]) -> &[Refusal] {
     &refusals[..refusals.len().min(1)]
 }
 
-/// Any operation on one table, with any numbers, or with this list.
+/// Any operation on one table that has to be proper, with any numbers, or with this list.
 fn any_call<'a>(rng: &mut Rng, limit: u64, list: List<'a>) -> Call<'a> {
     let number = number(rng, limit);
     let (k, j) = part(rng, limit);
-    match rng.below(ONE_TABLE.len() as u64) {
+    match rng.below(ONE_TABLE.len() as u64 - 1) {
         0 => Call::Check,
         1 => Call::Count,
         2 => Call::Test { setup: number },
@@ -334,8 +350,8 @@ fn lengths(rng: &mut Rng, call: Call, table: &[u8]) -> (usize, usize) {
         _ => sheets::random_length(rng, sheets::needed(call, table)),
     };
     let out = match call {
-        Call::PartWrite { .. } if rng.chance(50) => rng.index(table.len() + 600),
-        Call::PartWrite { .. } | Call::UnrankList { .. } => {
+        Call::PartWrite { .. } | Call::MakeProper if rng.chance(50) => rng.index(table.len() + 600),
+        Call::PartWrite { .. } | Call::MakeProper | Call::UnrankList { .. } => {
             sheets::random_length(rng, paper::out_needed(call, table))
         }
         _ => 0,

@@ -3,13 +3,14 @@
 //!
 //! - `call`: the calls that are compared, and what a call leaves behind; `combination`: those on two
 //!   tables
-//! - `paper`: the paper, straight; `reading`: a table, `part`: the table of a part, `combined`: two
-//!   tables made into one, and `listing`: what `setuplist` prints, after it
+//! - `paper`: the paper, straight; `reading`: a table, `part`: the table of a part, `loose`: the proper
+//!   table of a loose one, `combined`: two tables made into one, and `listing`: what `setuplist`
+//!   prints, after it
 //! - `diagram`: diagrams without flags, from which tables are written
 //! - `library`: the library under test; `memory`: what is lent to it, guarded; `program`: the
 //!   programs, run
-//! - `tables`: accepted tables; `damage`: tables with faults; `sheets`: sheets and out memories;
-//!   `lists`: lists of numbers
+//! - `tables`: accepted tables; `loosening`: loose ones; `damage`: tables with faults; `sheets`: sheets
+//!   and out memories; `lists`: lists of numbers
 //! - `layout`: words, bytes and the fields of a word
 //! - `comparison`: runs a call on both sides; `combining`: one on two tables; `tally`: which cases
 //!   have been met
@@ -30,6 +31,8 @@ pub mod layout;
 pub mod library;
 pub mod listing;
 pub mod lists;
+pub mod loose;
+pub mod loosening;
 pub mod memory;
 pub mod pages;
 pub mod paper;

@@ -86,6 +86,15 @@ mod ffi {
             out: *mut u8,
             out_len: usize,
         ) -> u64;
+        pub fn setupbook_make_proper(
+            table: *const u8,
+            table_len: usize,
+            sheet: *mut u8,
+            sheet_len: usize,
+            out: *mut u8,
+            out_len: usize,
+            answer: *mut u64,
+        ) -> u64;
         pub fn setupbook_join(
             table1: *const u8,
             table1_len: usize,
@@ -227,6 +236,11 @@ pub unsafe fn call_with(
         Call::UnrankList { .. } => {
             return in_words(|answer| {
                 ffi::setupbook_unrank_list(t, t_len, l, l_len, s, s_len, o, o_len, answer)
+            })
+        }
+        Call::MakeProper => {
+            return in_words(|answer| {
+                ffi::setupbook_make_proper(t, t_len, s, s_len, o, o_len, answer)
             })
         }
         Call::SpanStart { k, j } => ffi::setupbook_span_start(t, t_len, k, j, s, s_len),

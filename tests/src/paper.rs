@@ -3,6 +3,7 @@
 
 use crate::call::{Answer, Call, List, Outcome, Refusal};
 use crate::layout::bytes_of;
+use crate::loose;
 use crate::part;
 use crate::reading::Table;
 
@@ -14,15 +15,19 @@ pub struct Expected {
     pub outcome: Outcome,
     /// Whether an empty part is written, with setups before it and behind it.
     pub empty_between: bool,
+    /// Whether a table that is not proper is made proper.
+    pub improper: bool,
 }
 
 pub fn expect(call: Call, table: &[u8], sheet: &[u8], out: &[u8]) -> Expected {
     let mut refusals = table_refusals(call, table, sheet.len());
     let settled = Settled::read(table, &refusals);
-    let part = settled.as_ref().and_then(|settled| settled.part(call));
+    let words = settled.as_ref().and_then(|settled| settled.words(call));
     let n = (table.len() >= 8).then(|| table[0] / 4);
-    let own = examiner_refusal(call, n, settled.as_ref())
-        .or_else(|| written_refusal(part.as_deref()?, out.len()));
+    let own = examiner_refusal(call, n, settled.as_ref()).or_else(|| match call {
+        Call::MakeProper => out_refusal(words.as_deref()?, out.len()),
+        _ => written_refusal(words.as_deref()?, out.len()),
+    });
     refusals.extend(own.map(|number| Refusal::new(number, 0)));
     if let Call::UnrankList { ranks } = call {
         refusals.extend(list_refusals(ranks, settled.as_ref(), out.len()));
@@ -38,9 +43,9 @@ pub fn expect(call: Call, table: &[u8], sheet: &[u8], out: &[u8]) -> Expected {
         && settled
             .as_ref()
             .is_some_and(|settled| settled.has_empty_between(call));
-    let answer = match (first, part, call) {
+    let answer = match (first, words, call) {
         (Some(refusal), ..) => Answer::refused(refusal),
-        (None, Some(part), _) => Answer::result(put_words(&mut out, &part)),
+        (None, Some(words), _) => Answer::result(put_words(&mut out, &words)),
         (None, None, Call::UnrankList { ranks }) => {
             let setups = settled.unwrap().setups(ranks);
             Answer::result(put_words(&mut out, &setups) / 8)
@@ -51,29 +56,32 @@ pub fn expect(call: Call, table: &[u8], sheet: &[u8], out: &[u8]) -> Expected {
         },
         (None, None, _) => Answer::result(settled.unwrap().result(call)),
     };
+    let improper = first.is_none() && call == Call::MakeProper && !out.starts_with(table);
     let outcome = Outcome { answer, sheet, out };
     Expected {
         refusals,
         outcome,
         empty_between,
+        improper,
     }
 }
 
-/// The length that a call needs of its out memory: that of the setups, or that of the part, if it
-/// asks for one and it is settled, or else 0.
+/// The length that a call needs of its out memory: that of the setups, or that of the table to be
+/// written, if it asks for one and it is settled, or else 0.
 pub fn out_needed(call: Call, table: &[u8]) -> usize {
     match call {
         Call::UnrankList { ranks } => 8 * ranks.items().len(),
-        Call::PartWrite { .. } => {
+        Call::PartWrite { .. } | Call::MakeProper => {
             let faults = table_refusals(call, table, usize::MAX);
-            let part = Settled::read(table, &faults).and_then(|settled| settled.part(call));
-            part.map_or(0, |words| 8 * words.len())
+            let words = Settled::read(table, &faults).and_then(|settled| settled.words(call));
+            words.map_or(0, |words| 8 * words.len())
         }
         _ => 0,
     }
 }
 
-/// Those of refusals 1 to 10 that hold, in the paper's order.
+/// Those of refusals 1 to 10 that hold, in the paper's order; of a table to be made proper by the
+/// loose rules.
 pub fn table_refusals(call: Call, table: &[u8], sheet_len: usize) -> Vec<Refusal> {
     let mut holding = Vec::new();
     let mut note = |number: u64, place: u64| holding.push(Refusal::new(number, place));
@@ -89,7 +97,12 @@ pub fn table_refusals(call: Call, table: &[u8], sheet_len: usize) -> Vec<Refusal
     if length != 8 * (table.node_count + 1) {
         note(1, 0);
     }
-    if table.root.node != table.node_count {
+    let is_loose = call == Call::MakeProper;
+    let is_root = match is_loose {
+        true => table.root.node <= table.node_count,
+        false => table.root.node == table.node_count,
+    };
+    if !is_root {
         note(3, 0);
     }
     if (sheet_len as u64) / 8 < call.places(table.node_count) {
@@ -97,12 +110,18 @@ pub fn table_refusals(call: Call, table: &[u8], sheet_len: usize) -> Vec<Refusal
     }
     let last = table.last();
     for k in 1..=last {
-        for number in table.faults(k) {
+        let faults = match is_loose {
+            true => loose::faults(&table, k),
+            false => table.faults(k),
+        };
+        for number in faults {
             note(number, k);
         }
     }
-    if let Some(k) = table.lowest_unnamed(last) {
-        note(9, k);
+    if !is_loose {
+        if let Some(k) = table.lowest_unnamed(last) {
+            note(9, k);
+        }
     }
     holding
 }
@@ -112,7 +131,7 @@ pub fn table_refusals(call: Call, table: &[u8], sheet_len: usize) -> Vec<Refusal
 fn examiner_refusal(call: Call, n: Option<u8>, settled: Option<&Settled>) -> Option<u64> {
     let outside = |setup| n.is_some_and(|n| setup >= 1u64 << n);
     match call {
-        Call::Check | Call::Count | Call::UnrankList { .. } => None,
+        Call::Check | Call::Count | Call::UnrankList { .. } | Call::MakeProper => None,
         Call::Test { setup } | Call::RuledOut { setup } | Call::Rank { setup }
             if outside(setup) =>
         {
@@ -140,8 +159,13 @@ pub fn written_refusal(words: &[u64], out_len: usize) -> Option<u64> {
     if words.len() - 1 > 65_535 {
         Some(16)
     } else {
-        (out_len < 8 * words.len()).then_some(11)
+        out_refusal(words, out_len)
     }
+}
+
+/// Refusal 11, of a table to be written that has these words.
+fn out_refusal(words: &[u64], out_len: usize) -> Option<u64> {
+    (out_len < 8 * words.len()).then_some(11)
 }
 
 /// Those of refusals 18, 17 and 14 that hold of a list, 17 and 14 with the lowest item, from 1, of
@@ -205,9 +229,10 @@ impl Settled {
         self.table.permits(self.table.root, setup)
     }
 
-    /// The words of the part that a call asks for, however many, if it asks for one.
-    fn part(&self, call: Call) -> Option<Vec<u64>> {
+    /// The words of the table that a call asks for, however many, if it asks for one.
+    fn words(&self, call: Call) -> Option<Vec<u64>> {
         match call {
+            Call::MakeProper => Some(loose::proper(&self.table)),
             Call::PartWrite { k, j } if !is_no_part(k, j) => {
                 let (start, size) = span(self.total(), k, j);
                 Some(part::of_ranks(
@@ -275,7 +300,10 @@ impl Settled {
             Call::Unrank { rank } => table.setup_number(rank, counts),
             Call::SpanStart { k, j } => narrow(span(self.total(), k, j).0),
             Call::SpanSize { k, j } => narrow(span(self.total(), k, j).1),
-            Call::RuledOut { .. } | Call::UnrankList { .. } | Call::PartWrite { .. } => {
+            Call::RuledOut { .. }
+            | Call::UnrankList { .. }
+            | Call::PartWrite { .. }
+            | Call::MakeProper => {
                 unreachable!("answered in three words, or written, or refused")
             }
         }

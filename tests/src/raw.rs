@@ -2,6 +2,7 @@
 //! the rules of the records are reached.
 
 use crate::layout::{bytes_of, fields, word};
+use crate::loosening::{loosened, MOST};
 use crate::rng::Rng;
 use crate::tables;
 
@@ -18,8 +19,12 @@ pub struct Source {
     accepted: Vec<Vec<u8>>,
     /// Accepted tables with few records, so that two of them have few pairs.
     small: Vec<Vec<u8>>,
+    /// Loose tables.
+    loose: Vec<Vec<u8>>,
     /// One whose parts can have more than 65,535 records.
     wide: Vec<u8>,
+    /// A loose one of up to 65,535 records.
+    wide_loose: Vec<u8>,
     /// Tables that make more than 65,535 records of it, with few pairs.
     chains: [Vec<u8>; 2],
 }
@@ -33,10 +38,20 @@ impl Source {
             let n = tables::any_settings(rng);
             bytes_of(&tables::of_few_records(rng, n))
         });
+        let small = small.collect();
+        let loose = (0..500).map(|_| {
+            let words = tables::of_any_size(rng);
+            let more = rng.pick(&[2, 10, 100]);
+            bytes_of(&loosened(rng, &words, more))
+        });
+        let loose = loose.collect();
+        let wide_loose = tables::wide(rng, 63, 50_000, 2_000);
         Source {
             accepted,
-            small: small.collect(),
+            small,
+            loose,
             wide,
+            wide_loose: bytes_of(&loosened(rng, &wide_loose, MOST)),
             chains: [true, false].map(|only_one| bytes_of(&tables::chain(63, only_one, 0))),
         }
     }
@@ -48,6 +63,19 @@ impl Source {
             (changed(rng, self.wide.clone()), false)
         } else if rng.below(8) == 0 {
             let table = self.accepted[rng.index(self.accepted.len())].clone();
+            (changed(rng, table), false)
+        } else {
+            (raw(rng), true)
+        }
+    }
+
+    /// A loose table, and whether it is raw bytes, as every other one is. The others are loose ones
+    /// with up to three bytes changed.
+    pub fn loose_table(&self, rng: &mut Rng) -> (Vec<u8>, bool) {
+        if rng.below(20_000) == 0 {
+            (changed(rng, self.wide_loose.clone()), false)
+        } else if rng.below(2) == 0 {
+            let table = self.loose[rng.index(self.loose.len())].clone();
             (changed(rng, table), false)
         } else {
             (raw(rng), true)

@@ -146,17 +146,18 @@ impl Table {
         count << (height - own)
     }
 
-    /// Places 0 to N of a table whose edges lead to smaller node numbers and heights.
+    /// Places 0 to N of a table whose edges lead to smaller heights: those of the lowest nodes first.
     pub fn counts(&self) -> Vec<u128> {
-        let mut counts = vec![1u128];
-        for k in 1..=self.node_count {
+        let mut counts = vec![1; self.node_count as usize + 1];
+        let mut upward: Vec<u64> = (1..=self.node_count).collect();
+        upward.sort_by_key(|&k| self.height(k));
+        for k in upward {
             let record = self.record(k);
             let edges = [record.then_edge, record.else_edge];
-            let count = edges
+            counts[k as usize] = edges
                 .map(|edge| self.count_under(edge, record.height - 1, &counts))
                 .iter()
                 .sum();
-            counts.push(count);
         }
         counts
     }

@@ -6,16 +6,21 @@ use crate::call::{Answer, Call, Refusal};
 use crate::combination::Operation;
 use crate::sheets::Length;
 
-/// The refusals of a table, by every operation, in the paper's order; of 1 its second place, since
-/// of a table under 8 bytes no other condition holds, but 15, 17 and 18.
+/// The refusals of a table, by every operation but the one on loose tables, in the paper's order; of
+/// 1 its second place, since of a table under 8 bytes no other condition holds, but 15, 17 and 18.
 const SHARED: [u64; 10] = [2, 1, 3, 10, 4, 6, 5, 7, 8, 9];
+/// Those of a loose table.
+const OF_LOOSE: [u64; 6] = [2, 1, 3, 10, 4, 6];
 const RECORD_RULES: [u64; 5] = [4, 6, 5, 7, 8];
 const LAST_REFUSAL: u64 = 20;
 
 /// An operation with the refusals of its own, which come last.
 pub type Listed = (&'static str, &'static [u64]);
 
-pub const ONE_TABLE: [Listed; 10] = [
+/// The one on loose tables.
+pub const MAKE_PROPER: Listed = ("make proper", &[11]);
+
+pub const ONE_TABLE: [Listed; 11] = [
     ("check", &[]),
     ("count", &[]),
     ("test", &[12]),
@@ -26,6 +31,7 @@ pub const ONE_TABLE: [Listed; 10] = [
     ("span start", &[15]),
     ("span size", &[15]),
     ("part-write", &[15, 16, 11]),
+    MAKE_PROPER,
 ];
 
 const OF_TWO: &[u64] = &[19, 20, 16, 11];
@@ -59,6 +65,15 @@ pub fn name_of(call: Call) -> &'static str {
         Call::SpanStart { .. } => "span start",
         Call::SpanSize { .. } => "span size",
         Call::PartWrite { .. } => "part-write",
+        Call::MakeProper => MAKE_PROPER.0,
+    }
+}
+
+/// The refusals of a table by an operation, in the paper's order.
+fn of_table(name: &str) -> &'static [u64] {
+    match name == MAKE_PROPER.0 {
+        true => &OF_LOOSE,
+        false => &SHARED,
     }
 }
 
@@ -66,7 +81,7 @@ pub fn name_of(call: Call) -> &'static str {
 fn is_listed(name: &str, number: u64) -> bool {
     let mut operations = operations().into_iter();
     let (_, own) = operations.find(|operation| operation.0 == name).unwrap();
-    number == 0 || SHARED.contains(&number) || own.contains(&number)
+    number == 0 || of_table(name).contains(&number) || own.contains(&number)
 }
 
 /// Whether an answer is one that is listed for its call, whatever the table is.
@@ -97,7 +112,7 @@ fn is_listed_value(call: Call, value: u64, items: u64) -> bool {
         Call::Check => value >> 32 <= 63 && value & 0xFFFF_FFFF <= 65_535,
         Call::Test { .. } => value <= 1,
         Call::UnrankList { .. } => value == items,
-        Call::PartWrite { .. } => is_table_length(value),
+        Call::PartWrite { .. } | Call::MakeProper => is_table_length(value),
         Call::Rank { .. } | Call::Unrank { .. } => value < 1 << 63,
         Call::Count | Call::SpanStart { .. } | Call::SpanSize { .. } => value <= 1 << 63,
         Call::RuledOut { .. } => unreachable!("answered in three words"),
@@ -148,8 +163,8 @@ fn named_tables(name: &str) -> &'static [u64] {
 
 /// All refusals of an operation in the paper's order.
 fn causes((name, own): Listed) -> Vec<Cause> {
-    let of_table = |&table: &u64| SHARED.map(|number| (table, number));
-    let tables = named_tables(name).iter().flat_map(of_table);
+    let named = |&table: &u64| of_table(name).iter().map(move |&number| (table, number));
+    let tables = named_tables(name).iter().flat_map(named);
     tables
         .chain(own.iter().map(|&number| (0, number)))
         .collect()
@@ -183,14 +198,16 @@ fn lengths_to_meet((table, number): Cause, sheet: Sheet) -> &'static [Length] {
     }
 }
 
-/// Whether two refusals can hold together. A setup of 2^n or more is neither permitted nor
-/// unpermitted; with a fault of 4 or 6 it is not settled which setups are permitted; where there
-/// is no part or no result, or no table of it, nothing more is said of it.
-fn compatible((_, first): Cause, (_, other): Cause) -> bool {
-    !matches!(
-        (first, other),
-        (12, 13) | (4 | 6, 13 | 14 | 20 | 16 | 11) | (15 | 19, 16 | 11) | (16, 11)
-    )
+/// Whether two refusals of an operation can hold together. A setup of 2^n or more is neither
+/// permitted nor unpermitted; with a fault of 4 or 6 it is not settled which setups are permitted,
+/// and of a loose table not with one of 3; where there is no part or no result, or no table of it,
+/// nothing more is said of it.
+fn compatible(name: &str, (_, first): Cause, (_, other): Cause) -> bool {
+    match (first, other) {
+        (12, 13) | (4 | 6, 13 | 14 | 20 | 16 | 11) | (15 | 19, 16 | 11) | (16, 11) => false,
+        (3, 11) => name != MAKE_PROPER.0,
+        _ => true,
+    }
 }
 
 /// An operation, the refusal returned and another one whose condition holds too.
@@ -210,6 +227,8 @@ pub struct Tally {
     later_record: BTreeSet<Pair>,
     /// Empty parts written, with setups before them and behind them.
     pub empty_between: u64,
+    /// Tables that were not proper and have been made so.
+    pub improper: u64,
 }
 
 impl Tally {
@@ -315,7 +334,7 @@ impl Tally {
                 for &other in &order[i + 1..] {
                     let met = self.together.contains(&(name, first, other));
                     assert!(
-                        met == compatible(first, other),
+                        met == compatible(name, first, other),
                         "{name}, {first:?} before {other:?} (table, refusal): met is {met}"
                     );
                 }
@@ -327,8 +346,10 @@ impl Tally {
     }
 
     fn assert_every_record_pair(&self, name: &'static str, table: u64) {
-        for (i, &first) in RECORD_RULES.iter().enumerate() {
-            for &other in &RECORD_RULES[i + 1..] {
+        let is_rule = |rule: &u64| RECORD_RULES.contains(rule);
+        let rules: Vec<u64> = of_table(name).iter().copied().filter(is_rule).collect();
+        for (i, &first) in rules.iter().enumerate() {
+            for &other in &rules[i + 1..] {
                 let [earlier, later] = [(table, first), (table, other)];
                 let met = self.same_record.contains(&(name, earlier, later));
                 assert!(

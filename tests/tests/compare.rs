@@ -153,6 +153,7 @@ fn every_sheet(comparison: &mut Comparison) {
             Call::SpanStart { k, j },
             Call::SpanSize { k, j },
             Call::PartWrite { k, j },
+            Call::MakeProper,
         ] {
             let out = vec![0x55; paper::out_needed(call, &table)];
             for len in sheets::border_lengths(sheets::needed(call, &table)) {
@@ -316,6 +317,7 @@ fn wide(comparison: &mut Comparison) {
         let j = comparison.rng.below(k);
         comparison.compare_lengths(Call::PartWrite { k, j }, &bytes_of(&words), 0, 0);
     }
+    comparison.compare_lengths(Call::MakeProper, &bytes_of(&words), 0, 0);
 }
 
 /// Refusal 16 beside every other one that leaves it settled which setups are permitted.

@@ -10,5 +10,6 @@ fn raw_bytes_are_answered_as_the_paper_says() {
     report(&run.to_string());
     assert_eq!(run.differences, 0);
     assert!(run.tally.empty_between >= 50);
+    assert!(run.tally.improper >= 1_000);
     run.tally.assert_calls(&operations(), 20_000);
 }

@@ -1,12 +1,14 @@
 //! The reference itself: counts, ranks and setups against a brute-force reader of all setups, the
 //! tables of parts against those made from truth tables, starts and sizes against adding up, and two
-//! tables made into one against trying all setups.
+//! tables made into one, and loose tables made proper, against trying all setups.
 
 use setupbook_tests::call::Call;
 use setupbook_tests::combination::Operation;
 use setupbook_tests::combined::{pair_count, Results};
 use setupbook_tests::comparison::report;
 use setupbook_tests::layout::bytes_of;
+use setupbook_tests::loose;
+use setupbook_tests::loosening::Loose;
 use setupbook_tests::paper;
 use setupbook_tests::part;
 use setupbook_tests::reading::{Edge, Table};
@@ -221,4 +223,30 @@ fn two_tables_are_those_of_brute_force() {
         }
     }
     report(&format!("two tables, by brute force: {cases} pairs"));
+}
+
+/// The counts of loose tables, and their proper tables against those made from their truth tables,
+/// and against the whole as a part.
+#[test]
+fn proper_tables_are_those_of_brute_force() {
+    let mut rng = Rng::new(Rng::seed_of_run());
+    let mut cases = 0;
+    for n in 0..=9 {
+        for _ in 0..100 {
+            let node_count = rng.pick(&[1, 3, 8, 40]);
+            let mut loose = Loose::random(&mut rng, n, node_count);
+            loose.shuffle(&mut rng);
+            let table = Table::read(&bytes_of(&loose.words()));
+            compare_counts(&table);
+            let permits = |setup| table.permits(table.root, setup);
+            let function = (0..1 << n).map(permits).collect();
+            let proper = tables::from_truth_table(&function);
+            assert_eq!(loose::proper(&table), proper);
+            let counts = table.counts();
+            let whole = 0..table.total(&counts);
+            assert_eq!(part::of_ranks(&table, &counts, whole), proper);
+            cases += 1;
+        }
+    }
+    report(&format!("loose tables, by brute force: {cases}"));
 }

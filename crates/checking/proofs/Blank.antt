@@ -45,7 +45,7 @@ module _ (need : ℕ → ℕ) (t s : List ℕ) where
 
   nine-room : (place : ℕ) → checkingFor need t s ≡ refusal 9 place → 8 * m ≤ length s
   unfolding checkingFor
-  nine-room place e = headed-places need t (length s) (headed t (length s / 8) need (nine-headed t (length s / 8) need place e)) (nodes (wordAt t)) refl
+  nine-room place e = headed-places need t (length s) (headed false t (length s / 8) need (nine-headed t (length s / 8) need place e)) (nodes (wordAt t)) refl
 
   -- refused: by 9, or before
   refused : {B : Type 0} (number place : ℕ) → checkingFor need t s ≡ refusal number place → HandedBack {A = B} m (refusal number place) s (blankFor need t s)

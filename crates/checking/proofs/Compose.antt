@@ -1,6 +1,7 @@
 -- The rules one after the other, and the sheet as they leave it, in the terms of the code. Assumes nothing.
 use Prim.Native.Nat.{ℕ, _+_, _*_, _/_, _≤_}
 use mathlib.Core.Path.{_≡_, sym, ap, _∙_}
+use mathlib.Core.Bool.{Bool, false}
 use mathlib.Core.List.{List}
 use native.Mathlib.Omega.{arith}
 use lib.ListN.{length}
@@ -8,7 +9,7 @@ use borrow.Author.Tests.{eq-eqb, ne-eqb}
 use Rattle.words.specs.Words.{wordAt, wordsOver}
 use Rattle.diagram.specs.Format.{nodes}
 use Rattle.diagram.specs.Answer.{Answer, value, refusal, andThen}
-use Rattle.diagram.specs.Rules.{checkHeader, checkDiagram, check}
+use Rattle.diagram.specs.Rules.{checkHeaderOf, checkHeader, checkDiagram, check}
 use Rattle.diagram.specs.Reading.{IsHeader}
 use Rattle.diagram.proofs.Refusals.{header-refuses}
 use Rattle.diagram.proofs.Accept.{Headed, headed}
@@ -29,8 +30,8 @@ unfolding sheetBy
 sheet-zeroed f m a number k s e h = rw e (rw (eq-eqb number 9 h))
 
 -- a header that passes: the places that are needed are there
-pub headed-places : (need : ℕ → ℕ) (t : List ℕ) (long : ℕ) → Headed t (long / 8) need → (N : ℕ) → N ≡ nodes (wordAt t) → 8 * need N ≤ long
-headed-places need t long h N e = rw e (omega (arith, h .enough))
+pub headed-places : (need : ℕ → ℕ) (t : List ℕ) (long : ℕ) → {loose : Bool} → Headed loose t (long / 8) need → (N : ℕ) → N ≡ nodes (wordAt t) → 8 * need N ≤ long
+headed-places need t long {loose} h N e = rw e (omega (arith, h .enough))
 
 -- all rules, where `need N` places are needed: the verdict v on the header, then u on the diagram
 module _ (need : ℕ → ℕ) (t s : List ℕ) (v : Verdict) (v-is : verdictAs v ≡ checkHeader t (length s / 8) need) where
@@ -39,12 +40,12 @@ module _ (need : ℕ → ℕ) (t s : List ℕ) (v : Verdict) (v-is : verdictAs v
   header-refused r q =
       let e : checkHeader t (length s / 8) need ≡ refusal (numberOf r) (placeOf r) = sym v-is ∙ ap verdictAs q in
       let a : checkingFor need t s ≡ refusal (numberOf r) (placeOf r) = rw e in
-      (sym a, sheet-kept _ _ (checkingFor need t s) (numberOf r) (placeOf r) s a (header-refuses t (length s / 8) need (numberOf r) (placeOf r) e .0))
+      (sym a, sheet-kept _ _ (checkingFor need t s) (numberOf r) (placeOf r) s a (header-refuses false t (length s / 8) need (numberOf r) (placeOf r) e .0))
 
   -- what the header's rules give to those after them
   module _ (passed : v ≡ Passed) where
-    pub header-holds : Headed t (length s / 8) need
-    header-holds = headed t (length s / 8) need (sym v-is ∙ ap verdictAs passed)
+    pub header-holds : Headed false t (length s / 8) need
+    header-holds = headed false t (length s / 8) need (sym v-is ∙ ap verdictAs passed)
 
     module _ (n N e : ℕ) (h : IsHeader (wordAt t) n N e) (u : Verdict) (u-is : verdictAs u ≡ checkDiagram (wordAt t) n N) where
       checking-is : checkingFor need t s ≡ andThen (verdictAs u) (λ _. value (n, N))
@@ -72,5 +73,5 @@ module _ (need : ℕ → ℕ) (t s : List ℕ) (v : Verdict) (v-is : verdictAs v
 
 -- N and some places more, as the code has them
 pub need-one : (more : ℕ) (t s : List ℕ) → (checkingFor (λ N. 1 * N + more) t s ≡ checkingFor (λ N. N + more) t s) × (blankFor (λ N. 1 * N + more) t s ≡ blankFor (λ N. N + more) t s)
-unfolding checkingFor blankFor check checkHeader
+unfolding checkingFor blankFor check checkHeaderOf
 need-one more t s = let e : 1 * nodes (wordAt t) + more ≡ nodes (wordAt t) + more = omega arith in (rw e, rw e)

@@ -4,6 +4,5 @@ pub mod Accepting
 pub mod Lending
 pub mod Answering
 pub mod Bounds
-pub mod Walking
 pub mod Blank
 pub mod EdgeFirst

@@ -1,7 +1,4 @@
 // The operations: checking, counting and testing. None has a `requires`: every table, sheet and setup gets its answer or its refusal.
-mod walk;
-
-pub use walk::permitted_under;
 ghost use mathlib.Core.Path.{_≡_};
 ghost use Prim.Native.Nat.{_+_, _*_, _/_, _≤_};
 ghost use Rattle.words.specs.Words.{wordAt};
@@ -43,7 +40,7 @@ pub fn begin_with(table: &[u8], sheet: &mut [u8], each: usize, more: usize) -> C
     requires { ⌜ (each ≤ 64) × (more ≤ 512) ⌝ }
     ensures { λ r. ⌜ Begins (λ N. each * N + more) (now (table .entry)) (now (sheet .entry)) (now (sheet .exit)) r ⌝ }
 {
-    let header = rules::check_header(table, sheet.len() / 8, each, more);
+    let header = rules::check_header(table, sheet.len() / 8, each, more, false);
     if let Verdict::Refused(r) = header {
         return Checked::Refused(r);
     }
@@ -115,7 +112,7 @@ pub fn test_setup(table: &[u8], n: u64, e: Edge, x: Setup) -> Tested
     if 1 << n <= x.0 {
         return Tested::Refused(Refusal::SetupRange);
     }
-    Tested::Permitted(walk::permitted_under(table, e, x))
+    Tested::Permitted(walking::permitted_under(table, e, x))
 }
 
 // Tests whether a setup is permitted.

@@ -15,7 +15,7 @@ use Rattle.pairing.proofs.Meaning.{meaning-step, meaning-sink}
 use Rattle.pairing.proofs.Leading.{reached-parent}
 use Rattle.reducing.specs.Levels.{Loose, Named, Means}
 use Rattle.reducing.specs.Inner.{heightOf, edgeOf, resultOf}
-use Rattle.compiling.specs.Inner.{HoldsDiagram}
+use Rattle.compiling.specs.Inner.{HoldsDiagram, along}
 use Rattle.naming.specs.declared.Operation.{Operation}
 use Rattle.naming.specs.Combination.{names, combination}
 use Rattle.naming.specs.Inner.{AllReady}
@@ -67,7 +67,7 @@ module _ (op : Operation) (t u : List ℕ) (n a b : ℕ) (W : ℕ → ℕ) (shee
 
   -- every pair but the first is led to
   pairs-named : Named g E count 0
-  pairs-named i l other =
+  pairs-named i l _ other =
       let f = A .begins in
       let p = reached-parent w v n a b (W i) (A .sound i l) (λ e. other (A .distinct i 0 l (f .0) (e ∙ sym (f .1)))) in
       let j = A .complete (p .0) (p .3) in
@@ -106,7 +106,7 @@ module _ (op : Operation) (t u : List ℕ) (n a b : ℕ) (W : ℕ → ℕ) (shee
     named = pairs-named;
   }
 
-  -- the first node permits what is named
-  pub first-means : b < 131072 → (x : ℕ) → F 0 x ≡ combination op (under w a) (under v b) x
-  unfolding meaning combination
+  -- the edge to the first node permits what is named
+  pub first-means : b < 131072 → (x : ℕ) → along F 0 x ≡ combination op (under w a) (under v b) x
+  unfolding along flip meaning combination
   first-means small x = rw (A .begins .1, first-of-pair a b small, second-of-pair a b small)

@@ -1,5 +1,5 @@
 -- What two tables come to, rule by rule, in the terms of the code. Assumes nothing.
-use Prim.Native.Nat.{ℕ, _+_, _-_, _*_, _/_, _≤_, _<_}
+use Prim.Native.Nat.{ℕ, _+_, _*_, _/_, _≤_, _<_}
 use mathlib.Core.Path.{_≡_, refl, sym, ap, _∙_}
 use mathlib.Core.Bool.{Bool, true, false, cond}
 use mathlib.Core.List.{List, _++_}
@@ -7,9 +7,9 @@ use mathlib.Core.Option.{Option, none, some}
 use native.Mathlib.Omega.{arith}
 use lib.Dec.{ltb}
 use lib.ListN.{length, drop}
-use lib.Seq.{drop-append-add, drop-drop}
 use borrow.Author.Tests.{lt-ltb, le-ltb, eq-eqb, ne-eqb}
-use Rattle.words.specs.Words.{wordAt, wordsBytes, wordsOver}
+use Rattle.words.specs.Words.{wordAt, wordsOver}
+use Rattle.words.proofs.Laws.{over-front}
 use Rattle.diagram.specs.Format.{Words, settings}
 use Rattle.diagram.specs.Meaning.{under}
 use Rattle.diagram.specs.Answer.{Answer, value, refusal}
@@ -52,17 +52,6 @@ roots-used op w v n a b pairs room = go (ltb pairs (pairCount w v n a b)) (table
     go false none = refl
     go false (some t) = fits (ltb room (length t)) t
 
--- zeros over the whole sheet, whatever its first 32 p bytes held
-pub blank-all : (s front : List ℕ) (p : ℕ) → p ≡ length s / 32 → length front ≡ 32 * p → wordsOver (λ _. 0) (length s / 8) (front ++ drop (32 * p) s) ≡ wordsOver (λ _. 0) (length s / 8) s
-unfolding wordsOver
-blank-all s front p p-is long =
-    let m = 8 * (length s / 8) in
-    let k = m - 32 * p in
-    let e : length front + k ≡ m = omega arith in
-    let f : 32 * p + k ≡ m = omega arith in
-    ap (wordsBytes (λ _. 0) (length s / 8) ++_)
-    (ap (λ (i : ℕ). drop i (front ++ drop (32 * p) s)) (sym e) ∙ drop-append-add front (drop (32 * p) s) k ∙ drop-drop k (32 * p) s ∙ ap (λ (i : ℕ). drop i s) f)
-
 -- two accepted tables, by their headers
 module _ (op : Operation) (t u pairs out : List ℕ) (n N a n′ N′ b : ℕ) (H : IsHeader (wordAt t) n N a) (K : IsHeader (wordAt u) n′ N′ b) where
   abbrev w : Words
@@ -90,7 +79,7 @@ module _ (op : Operation) (t u pairs out : List ℕ) (n N a n′ N′ b : ℕ) (
         → (pairs′ : List ℕ) → pairs′ ≡ wordsOver (λ _. 0) (length pairs / 8) (front ++ drop (32 * p) pairs)
         → (m ≡ lengthOf all) × (out′ ≡ outAfter all out) × (pairs′ ≡ pairsAfter all pairs)
     unfolding pairsAfter
-    equal-tables m out′ front r long pairs′ z = rw (all-is, roots-used op w v n a b p (length out)) (r .0, r .1, z ∙ blank-all pairs front p p-is long)
+    equal-tables m out′ front r long pairs′ z = rw (all-is, roots-used op w v n a b p (length out)) (r .0, r .1, z ∙ over-front (λ _. 0) (length pairs / 8) (32 * p) front pairs long (omega arith))
 
 -- the diagram of an accepted table, by its header
 pub checked-diagram : (t : List ℕ) → Checks t → {n N a : ℕ} → IsHeader (wordAt t) n N a → HasDiagram t n (a / 2)

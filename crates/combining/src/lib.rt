@@ -43,7 +43,7 @@ fn combine_roots(
         return Written::Refused(Refusal::TooManyPairs);
     };
     naming::ready_all(table1, table2, sheet, p, count, op);
-    compiling::write_top(sheet, out, p, count, n, 0)
+    compiling::write_root(sheet, out, p, count, n, Edge { value: 0 })
 }
 
 // ... of two accepted tables: rule 19 before these. Once the pair sheet has been used all its places are zero.

@@ -1,11 +1,11 @@
 // A table made of nodes that lie in a sheet in any order: numbered, and written.
 ghost use mathlib.Core.Path.{_≡_};
-ghost use Prim.Native.Nat.{_+_, _*_, _≤_, _<_};
+ghost use Prim.Native.Nat.{_+_, _*_, _/_, _≤_, _<_};
 ghost use lib.ListN.{length};
 ghost use Rattle.words.specs.Words.{wordAt};
 ghost use Rattle.diagram.specs.Reading.{recordOf};
 ghost use Rattle.tables.specs.Answers.{writtenAs};
-ghost use Rattle.compiling.specs.Inner.{HoldsDiagram, WritesTop, HoldsTable};
+ghost use Rattle.compiling.specs.Inner.{HoldsDiagram, WritesRoot, HoldsTable};
 use diagram::Edge;
 use diagram::Header;
 use reducing::Reduced;
@@ -40,17 +40,17 @@ fn write_table(sheet: &[u8], out: &mut [u8], n: u64, count: usize, root: Edge)
     copy_records(sheet, out, count);
 }
 
-// Writes the table of what node `top` permits, of n settings: rules 16 and 11. The nodes are used up.
-pub fn write_top(
+// Writes the table of what the root edge permits, of n settings: rules 16 and 11. The nodes are used up.
+pub fn write_root(
     sheet: &mut [u8],
     out: &mut [u8],
     p: usize,
     count: usize,
     n: u64,
-    top: usize,
+    root: Edge,
 ) -> Written
-    requires { ⌜ HoldsDiagram (now sheet) p n count top ⌝ }
-    ensures { λ r. ⌜ WritesTop (wordAt (now (sheet .entry))) p n count top (now (out .entry)) (writtenAs r) (now (out .exit)) ⌝ }
+    requires { ⌜ HoldsDiagram (now sheet) p n count (root .value / 2) ⌝ }
+    ensures { λ r. ⌜ WritesRoot (wordAt (now (sheet .entry))) p n count (root .value) (now (out .entry)) (writtenAs r) (now (out .exit)) ⌝ }
 {
     let reduced = reducing::reduce(sheet, p, count, n);
     let Reduced::Records(records) = reduced else {
@@ -60,9 +60,7 @@ pub fn write_top(
     if out.len() < end {
         return Written::Refused(Refusal::Out);
     }
-    let root = Edge {
-        value: words::word_at(sheet, p + top),
-    };
-    write_table(sheet, &mut out[..end], n, records, root);
+    let top = reducing::through_of(sheet, p, root.value);
+    write_table(sheet, &mut out[..end], n, records, top);
     Written::Bytes(end)
 }

@@ -9,6 +9,8 @@ ghost use Rattle.exclusion.specs.Operations.{rulingOut};
 ghost use Rattle.lists.specs.Operations.{items, unrankingList, setupsAfter};
 ghost use Rattle.tables.specs.Writing.{lengthOf};
 ghost use Rattle.parts.specs.Operations.{partWriting, Promise};
+ghost use Rattle.tightening.specs.Operations as tightening;
+ghost use Rattle.tightening.specs.Operations.{makingProper};
 ghost use Rattle.naming.specs.declared.Operation.the-variants.{Joined, Shared, Without};
 ghost use Rattle.telling.specs.Told.{single, foundWords, returned, told};
 ghost use Rattle.console.specs.Combines.{Combines};
@@ -101,6 +103,23 @@ pub extern "C" fn setupbook_part_write(
         Written::Bytes(m) => m as u64,
         Written::Refused(r) => rules::pack_refusal(r),
     }
+}
+
+// A loose table made proper: how many bytes.
+#[no_mangle]
+pub extern "C" fn setupbook_make_proper(
+    table: &[u8],
+    sheet: &mut [u8],
+    out: &mut [u8],
+    answer: &mut [u64; 3],
+) -> u64
+    ensures { λ r. ⌜ (r ≡ returned (lengthOf (makingProper (now (table .entry)) (now (sheet .entry)) (length (now (out .entry))))))
+        × (now (answer .exit) ≡ told single (lengthOf (makingProper (now (table .entry)) (now (sheet .entry)) (length (now (out .entry))))))
+        × tightening.Promise (now (table .entry)) (now (sheet .entry)) (now (out .entry))
+        (lengthOf (makingProper (now (table .entry)) (now (sheet .entry)) (length (now (out .entry))))) (now (sheet .exit)) (now (out .exit)) ⌝ }
+{
+    let written = tightening::make_proper(table, sheet, out);
+    telling::tell_written(written, answer)
 }
 
 // Two tables made into one by an operation: how many bytes.

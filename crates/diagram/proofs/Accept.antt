@@ -12,7 +12,7 @@ use Rattle.words.specs.Words.{wordAt}
 use Rattle.words.proofs.Cases.{or-true, or-false, or-either, join-false, and-false, passed}
 use Rattle.diagram.specs.Format.{Words, settings, nodes, root, height, thenEdge, elseEdge}
 use Rattle.diagram.specs.Answer.{Answer, value, refusal, andThen, pass}
-use Rattle.diagram.specs.Rules.{misled, checkRecord, names, named, checkNamed, checkHeader, checkRecords, checkNames, checkDiagram, check, Accepts}
+use Rattle.diagram.specs.Rules.{misled, checkRecord, names, named, checkNamed, wrongRoot, checkHeaderOf, checkHeader, checkRecords, checkNames, checkDiagram, check, Accepts}
 use Rattle.diagram.specs.Ordered.{Ordered, Reduced, Named, Proper, Accepted}
 use Rattle.diagram.proofs.AnswerLaws.{refused-not, value-inj, then-value, each-all, all-each, some-at, some-found}
 
@@ -112,27 +112,36 @@ diagram-proper w n N e =
     record { reduced = records-reduced w n N (a .0); named = names-named w N (a .1) }
 
 -- what the header's rules say
-pub record Headed (bytes : List ℕ) (lent : ℕ) (need : ℕ → ℕ) : Type 0 where
+pub record Headed (loose : Bool) (bytes : List ℕ) (lent : ℕ) (need : ℕ → ℕ) : Type 0 where
   pub long : length bytes ≡ 8 * (nodes (wordAt bytes) + 1)
   pub few : nodes (wordAt bytes) ≤ 65535
-  pub root-node : root (wordAt bytes) / 2 ≡ nodes (wordAt bytes)
+  pub right-root : wrongRoot loose (root (wordAt bytes) / 2) (nodes (wordAt bytes)) ≡ false
   pub enough : need (nodes (wordAt bytes)) ≤ lent
 
-pub headed : (bytes : List ℕ) (lent : ℕ) (need : ℕ → ℕ) → checkHeader bytes lent need ≡ pass → Headed bytes lent need
-unfolding checkHeader
-headed bytes lent need e =
+pub headed : (loose : Bool) (bytes : List ℕ) (lent : ℕ) (need : ℕ → ℕ) → checkHeaderOf loose bytes lent need ≡ pass → Headed loose bytes lent need
+unfolding checkHeaderOf
+headed loose bytes lent need e =
     let w = wordAt bytes in
     let a = passed (ltb (length bytes) 8) refused-not e in
     let b = passed (ltb 65535 (nodes w)) refused-not (a .1) in
     let c = passed (not (eqb (length bytes) (8 * (nodes w + 1)))) refused-not (b .1) in
-    let d = passed (not (eqb (root w / 2) (nodes w))) refused-not (c .1) in
+    let d = passed (wrongRoot loose (root w / 2) (nodes w)) refused-not (c .1) in
     let f = passed (ltb lent (need (nodes w))) refused-not (d .1) in
     record {
       long = eqb-true (length bytes) (8 * (nodes w + 1)) (not-false (eqb (length bytes) (8 * (nodes w + 1))) (c .0));
       few = ltb-false 65535 (nodes w) (b .0);
-      root-node = eqb-true (root w / 2) (nodes w) (not-false (eqb (root w / 2) (nodes w)) (d .0));
+      right-root = d .0;
       enough = ltb-false lent (need (nodes w)) (f .0);
     }
+
+-- rule 3: the root's node is the last, or in a loose table one that there is
+pub last-root : (v N : ℕ) → wrongRoot false v N ≡ false → v ≡ N
+unfolding wrongRoot
+last-root v N e = eqb-true v N (not-false (eqb v N) e)
+
+pub some-root : (v N : ℕ) → wrongRoot true v N ≡ false → v ≤ N
+unfolding wrongRoot
+some-root v N e = ltb-false N v e
 
 -- a table that passes with some memory lent keeps the rules
 pub check-accepted : (bytes : List ℕ) (lent : ℕ) (need : ℕ → ℕ) (n N : ℕ) → check bytes lent need ≡ value (n, N) → Accepted bytes n N × (need N ≤ lent)
@@ -144,13 +153,13 @@ check-accepted bytes lent need n N e =
     let v = value-inj (d .1) in
     let s : settings w ≡ n = ap (λ q. q .0) v in
     let t : nodes w ≡ N = ap (λ q. q .1) v in
-    let h = headed bytes lent need (a .0) in (
+    let h = headed false bytes lent need (a .0) in (
       record {
         long = h .long ∙ ap (λ (m : ℕ). 8 * (m + 1)) t;
         few = omega (arith, h .few);
         has-settings = s;
         has-nodes = t;
-        root-node = h .root-node ∙ t;
+        root-node = last-root (root w / 2) (nodes w) (h .right-root) ∙ t;
         proper = rw (← s, ← t) (diagram-proper w (settings w) (nodes w) (d .0));
       },
       subst (λ (m : ℕ). need m ≤ lent) t (h .enough),
@@ -195,7 +204,7 @@ module _ (w : Words) (n N : ℕ) (A : Proper w n N) where
 
 -- an accepted table is refused by 10 alone, where too few places are lent
 pub accepted-lent : (bytes : List ℕ) (lent : ℕ) (need : ℕ → ℕ) (n N : ℕ) → Accepted bytes n N → check bytes lent need ≡ cond (ltb lent (need N)) (refusal 10 0) (value (n, N))
-unfolding check checkHeader checkDiagram andThen
+unfolding check wrongRoot checkHeaderOf checkDiagram andThen
 accepted-lent bytes lent need n N A =
     let w = wordAt bytes in
     let a = A .long in
@@ -223,7 +232,7 @@ accepted-check bytes lent need n N A l = accepted-lent bytes lent need n N A ∙
 -- the places that are lent, and those that are needed, are for rule 10 alone
 pub check-lent : (bytes : List ℕ) (lent lent′ : ℕ) (need need′ : ℕ → ℕ) → check bytes lent need ≢ refusal 10 0 → check bytes lent′ need′ ≢ refusal 10 0
     → check bytes lent need ≡ check bytes lent′ need′
-unfolding check checkHeader andThen
+unfolding check wrongRoot checkHeaderOf andThen
 check-lent bytes lent lent′ need need′ =
     let w = wordAt bytes in
     go (ltb (length bytes) 8) (ltb 65535 (nodes w)) (not (eqb (length bytes) (8 * (nodes w + 1)))) (not (eqb (root w / 2) (nodes w)))

@@ -1,6 +1,6 @@
 -- Words whose records agree: they are ordered and reduced alike, and their nodes mean the same. Assumes nothing.
 use Prim.Native.Nat.{ℕ, zero, suc, _/_, _%_, _≤_, _<_}
-use mathlib.Core.Path.{_≡_, refl, ap}
+use mathlib.Core.Path.{_≡_, refl, ap, _∙_}
 use mathlib.Core.Logic.{inl, inr}
 use mathlib.Core.Bool.{Bool, true, false}
 use native.Mathlib.Omega.{arith}
@@ -34,7 +34,7 @@ module _ (w w′ : Words) (m : ℕ) (same : (k : ℕ) → k < m → w (suc k) �
 
 -- the nodes' meaning
 module _ (w w′ : Words) (n N : ℕ) (D : Ordered w n N) (m : ℕ) (inside : m ≤ N) (same : (k : ℕ) → k < m → w (suc k) ≡ w′ (suc k)) where
-  pub agree-holds : (d k x : ℕ) → k ≤ m → holds w d k x ≡ holds w′ d k x
+  agree-holds : (d k x : ℕ) → k ≤ m → holds w d k x ≡ holds w′ d k x
   unfolding holds branch height thenEdge elseEdge
   agree-holds zero k x q = refl
   agree-holds (suc d) zero x q = refl
@@ -42,9 +42,13 @@ module _ (w w′ : Words) (n N : ℕ) (D : Ordered w n N) (m : ℕ) (inside : m 
       let s = branch-node w n N D k x (omega arith) in
       rw (← (same k q)) (ap (flip (branch w (suc k) x % 2)) (agree-holds d (branch w (suc k) x / 2) x (omega arith)))
 
+  pub agree-plain : (k x : ℕ) → k ≤ m → plain w k x ≡ plain w′ k x
+  unfolding plain
+  agree-plain k x q = agree-holds (height w k) k x q ∙ ap (λ (d : ℕ). holds w′ d k x) (agree-height w w′ m same k q)
+
   pub agree-under : (e x : ℕ) → e / 2 ≤ m → under w e x ≡ under w′ e x
-  unfolding under plain
-  agree-under e x q = ap (flip (e % 2)) (agree-holds (e / 2) (e / 2) x q)
+  unfolding under
+  agree-under e x q = ap (flip (e % 2)) (agree-plain (e / 2) x q)
 
 -- the rules
 module _ (w w′ : Words) (n N : ℕ) (same : (k : ℕ) → k < N → w (suc k) ≡ w′ (suc k)) where

@@ -11,7 +11,7 @@ use Rattle.diagram.specs.Meaning.{flip, holds, plain, under}
 use Rattle.diagram.specs.Ordered.{Reduced, Named, Proper}
 use Rattle.diagram.proofs.Members.{distinct-le}
 use Rattle.diagram.proofs.Paths.{side, side-node, height-le-settings}
-use Rattle.diagram.proofs.Agree.{agree-holds}
+use Rattle.diagram.proofs.Agree.{agree-plain}
 use Rattle.diagram.proofs.Local.{under-mod}
 use Rattle.diagram.proofs.Unique.{same-flag, same-node, node-unique, not-taller, same-side, ascending, record-fields, unique}
 use Rattle.words.proofs.Cases.{Tri, less, same, more, tri}
@@ -49,7 +49,7 @@ module _ (w w′ : Words) (n N N′ : ℕ) (D : Reduced w n N) (D′ : Reduced w
 
   -- every node has a twin: the last one, and then what a record with a twin names
   twin : (d k : ℕ) → N ≤ k + d → k ≤ N → Twin w w′ N′ k
-  unfolding plain holds
+  unfolding plain holds height
   twin zero k l m = let e : k ≡ N = omega arith in rw e (record { node = N′; inside = le-refl N′; means = top })
   twin (suc d) zero l m = record { node = 0; inside = omega arith; means = λ x. refl }
   twin (suc d) (suc k) l m = go (tri (suc k) N) (λ j p q. twin d (suc j) (omega arith) q)
@@ -86,11 +86,11 @@ twins-le w w′ n N N′ D t =
 module _ (w w′ : Words) (n N N′ : ℕ) (D : Reduced w n N) (D′ : Reduced w′ n N′) (M : Named w N) (top : (x : ℕ) → plain w N x ≡ plain w′ N′ x) where
   -- where the first m records agree and w has one more, w′ has one more too, and it is not above
   next : (m : ℕ) → m < N → m ≤ N′ → ((k : ℕ) → k < m → w (suc k) ≡ w′ (suc k)) → (m < N′) × (w′ (suc m) ≤ w (suc m))
-  unfolding plain under
+  unfolding under
   next m l l′ a = let t = twin w w′ n N N′ D D′ M top N (suc m) (omega arith) l in go (t .node) (t .inside) (t .means)
     where
       lower : (k x : ℕ) → k ≤ m → plain w k x ≡ plain w′ k x
-      lower k x q = agree-holds w w′ n N (D .ordered) m (omega arith) a k k x q
+      lower k x q = agree-plain w w′ n N (D .ordered) m (omega arith) a k x q
 
       -- an edge of the one that leads to an agreed node is the edge of the other that means the same
       edge : (e e′ : ℕ) → e / 2 ≤ m → e′ / 2 ≤ N′ → ((x : ℕ) → under w e x ≡ under w′ e′ x) → e ≡ e′

@@ -26,7 +26,7 @@ share-edge w e = count-flip (e % 2) (plain w (e / 2)) (2 ^ 63)
 
 -- the sink permits every setup
 pub share-sink : (w : Words) → share w 0 ≡ 2 ^ 63
-unfolding share plain holds
+unfolding share plain holds height
 share-sink w = count-all (2 ^ 63)
 
 module _ (w : Words) (n N : ℕ) (D : Ordered w n N) where

@@ -13,7 +13,7 @@ use Rattle.diagram.proofs.Bits.{bit-mod, withBit, bit-with, with-mod, b
 module _ (w : Words) (n N : ℕ) (D : Ordered w n N) where
   -- the settings of weight 2 ^ H and above do not matter, where H is at least the node's height
   pub plain-mod : (k H x : ℕ) → k ≤ N → height w k ≤ H → plain w k (x % 2 ^ H) ≡ plain w k x
-  unfolding plain holds under branch
+  unfolding plain holds under branch height
   plain-mod k H x = go k k (le-refl k)
     where
       go : (d k : ℕ) → k ≤ d → k ≤ N → height w k ≤ H → plain w k (x % 2 ^ H) ≡ plain w k x
@@ -56,7 +56,7 @@ module _ (w : Words) (n N : ℕ) (D : Ordered w n N) where
 
 -- the setup with every setting on passes then-edges only, whose flags are clear
 pub plain-ones : (w : Words) (n N : ℕ) → Reduced w n N → (k : ℕ) → k ≤ N → plain w k (2 ^ n - 1) ≡ true
-unfolding plain holds under branch flip
+unfolding plain holds under branch flip height
 plain-ones w n N R k = go k k (le-refl k)
   where
     D : Ordered w n N

@@ -1,25 +1,75 @@
--- One step from a node of an ordered diagram. Assumes nothing.
+-- One step from a node of an ordered diagram, or of a loose one. Assumes nothing.
 use Prim.Native.Nat.{ℕ, zero, suc, _/_, _%_, _≤_, _<_}
-use mathlib.Core.Path.{_≡_, refl, ap}
+use mathlib.Core.Path.{_≡_, refl, sym, ap, _∙_}
 use mathlib.Core.Bool.{Bool, true, false, cond}
 use native.Mathlib.Nat.{le-refl}
 use native.Mathlib.Omega.{arith}
 use Rattle.diagram.specs.Format.{Words, height, thenEdge, elseEdge}
 use Rattle.diagram.specs.Meaning.{bit, branch, flip, holds, plain, under}
-use Rattle.diagram.specs.Ordered.{Ordered}
+use Rattle.diagram.specs.Ordered.{LooseRecords, Ordered}
 
 -- edge 0 means always permitted, edge 1 never
 pub under-always : (w : Words) (x : ℕ) → under w 0 x ≡ true
-unfolding under flip plain holds
+unfolding under flip plain holds height
 under-always w x = refl
 
 pub under-never : (w : Words) (x : ℕ) → under w 1 x ≡ false
-unfolding under flip plain holds
+unfolding under flip plain holds height
 under-never w x = refl
 
 -- an edge of node k by its side: the then-edge, or the else-edge
 abbrev pub side : Words → Bool → ℕ → ℕ
 side w b k = cond b (thenEdge w k) (elseEdge w k)
+
+module _ (w : Words) (n N : ℕ) (D : LooseRecords w n N) where
+  -- either edge of a loose diagram leads to a node of smaller height
+  pub loose-node : (b : Bool) (k : ℕ) → k < N → side w b (suc k) / 2 ≤ N
+  loose-node true k l = D .then-node k l
+  loose-node false k l = D .else-node k l
+
+  pub loose-height : (b : Bool) (k : ℕ) → k < N → height w (side w b (suc k) / 2) < height w (suc k)
+  loose-height true k l = D .then-height k l
+  loose-height false k l = D .else-height k l
+
+  -- as many nodes allowed as the node's height, or more: the same answer
+  holds-fuel : (d k x : ℕ) → height w k ≤ d → k ≤ N → holds w d k x ≡ plain w k x
+  unfolding plain holds branch
+  holds-fuel d k x l m = both d (height w k) k l (le-refl (height w k)) m
+    where
+      both : (d d′ k : ℕ) → height w k ≤ d → height w k ≤ d′ → k ≤ N → holds w d k x ≡ holds w d′ k x
+      both zero zero k p q r = refl
+      both zero (suc d′) zero p q r = refl
+      both (suc d) zero zero p q r = refl
+      both (suc d) (suc d′) zero p q r = refl
+      both zero (suc d′) (suc k) p q r = absurd (omega (arith, D .tall k r))
+      both (suc d) zero (suc k) p q r = absurd (omega (arith, D .tall k r))
+      both (suc d) (suc d′) (suc k) p q r =
+          let e = branch w (suc k) x in
+          let b = bit (height w (suc k)) x in
+          let s : height w (e / 2) < height w (suc k) = loose-height b k r in
+          ap (flip (e % 2)) (both d d′ (e / 2) (omega arith) (omega arith) (loose-node b k r))
+
+  -- one step from a node
+  pub loose-step : (k x : ℕ) → k < N → plain w (suc k) x ≡ under w (branch w (suc k) x) x
+  unfolding under holds branch
+  loose-step k x l = go (height w (suc k)) (holds-fuel (height w (suc k)) (suc k) x (le-refl (height w (suc k))) l) (loose-height (bit (height w (suc k)) x) k l)
+    where
+      go : (h : ℕ) → holds w h (suc k) x ≡ plain w (suc k) x → height w (side w (bit (height w (suc k)) x) (suc k) / 2) < h → plain w (suc k) x ≡ under w (branch w (suc k) x) x
+      go zero q s = absurd (omega arith)
+      go (suc h) q s =
+          let b = bit (height w (suc k)) x in
+          sym q ∙ ap (flip (branch w (suc k) x % 2)) (holds-fuel h (branch w (suc k) x / 2) x (omega arith) (loose-node b k l))
+
+-- an ordered diagram is a loose one
+pub ordered-loose : (w : Words) (n N : ℕ) → Ordered w n N → LooseRecords w n N
+ordered-loose w n N D = record {
+  tall = D .tall;
+  low = D .low;
+  then-node = λ k l. omega (arith, D .then-node k l);
+  else-node = λ k l. omega (arith, D .else-node k l);
+  then-height = D .then-height;
+  else-height = D .else-height;
+}
 
 module _ (w : Words) (n N : ℕ) (D : Ordered w n N) where
   -- either edge leads to a smaller node, of smaller height
@@ -40,29 +90,9 @@ module _ (w : Words) (n N : ℕ) (D : Ordered w n N) where
   unfolding branch
   branch-height k x l = side-height (bit (height w (suc k)) x) k l
 
-  -- as many nodes allowed as the node's number, or more: the same answer
-  pub holds-fuel : (d k x : ℕ) → k ≤ d → k ≤ N → holds w d k x ≡ plain w k x
-  unfolding plain holds
-  holds-fuel d k x l m = both d k k l (le-refl k) m
-    where
-      both : (d d′ k : ℕ) → k ≤ d → k ≤ d′ → k ≤ N → holds w d k x ≡ holds w d′ k x
-      both zero zero zero p q r = refl
-      both zero (suc d′) zero p q r = refl
-      both (suc d) zero zero p q r = refl
-      both (suc d) (suc d′) zero p q r = refl
-      both zero d′ (suc k) p q r = absurd (omega arith)
-      both (suc d) zero (suc k) p q r = absurd (omega arith)
-      both (suc d) (suc d′) (suc k) p q r =
-          let e = branch w (suc k) x in
-          let s : e / 2 ≤ k = branch-node k x r in
-          ap (flip (e % 2)) (both d d′ (e / 2) (omega arith) (omega arith) (omega arith))
-
   -- one step from a node
   pub plain-step : (k x : ℕ) → k < N → plain w (suc k) x ≡ under w (branch w (suc k) x) x
-  unfolding plain holds under
-  plain-step k x l =
-      let s : branch w (suc k) x / 2 ≤ k = branch-node k x l in
-      ap (flip (branch w (suc k) x % 2)) (holds-fuel k (branch w (suc k) x / 2) x s (omega arith))
+  plain-step = loose-step w n N (ordered-loose w n N D)
 
   -- no node is taller than the settings
   pub height-le-settings : (k : ℕ) → k ≤ N → height w k ≤ n

@@ -10,7 +10,7 @@ use borrow.Author.Tests.{ltb-true}
 use Rattle.words.specs.Words.{wordAt}
 use Rattle.diagram.specs.Format.{Words, settings, nodes, root, height, thenEdge, elseEdge}
 use Rattle.diagram.specs.Answer.{Answer, value, refusal, andThen, pass, each}
-use Rattle.diagram.specs.Rules.{misled, checkRecord, named, checkNamed, checkHeader, checkRecords, checkNames, checkDiagram, check}
+use Rattle.diagram.specs.Rules.{misled, checkRecord, named, checkNamed, wrongRoot, checkHeaderOf, checkHeader, checkRecords, checkNames, checkDiagram, check}
 use Rattle.diagram.proofs.AnswerLaws.{refused-not}
 use Rattle.diagram.proofs.Accept.{headed}
 
@@ -54,14 +54,14 @@ Records N number place = (number < 9) × (place ≤ N)
 abbrev pub Nine : ℕ → ℕ → ℕ → Type 0
 Nine N number place = (number ≡ 9) × (place ≤ N)
 
-pub header-refuses : (bytes : List ℕ) (lent : ℕ) (need : ℕ → ℕ) → Refuses Early (checkHeader bytes lent need)
-unfolding checkHeader
-header-refuses bytes lent need =
+pub header-refuses : (loose : Bool) (bytes : List ℕ) (lent : ℕ) (need : ℕ → ℕ) → Refuses Early (checkHeaderOf loose bytes lent need)
+unfolding checkHeaderOf
+header-refuses loose bytes lent need =
     let w = wordAt bytes in
     unless Early (ltb (length bytes) 8) 1 0 (λ e. omega arith, refl, omega arith)
     (unless Early (ltb 65535 (nodes w)) 2 0 (λ e. omega arith, refl, omega arith)
     (unless Early (not (eqb (length bytes) (8 * (nodes w + 1)))) 1 0 (λ e. omega arith, refl, omega arith)
-    (unless Early (not (eqb (root w / 2) (nodes w))) 3 0 (λ e. omega arith, refl, omega arith)
+    (unless Early (wrongRoot loose (root w / 2) (nodes w)) 3 0 (λ e. omega arith, refl, omega arith)
     (unless Early (ltb lent (need (nodes w))) 10 0 (λ e. omega arith, refl, omega arith)
     (passes Early tt)))))
 
@@ -92,10 +92,10 @@ pub check-refuses : (bytes : List ℕ) (lent : ℕ) (need : ℕ → ℕ) → Ref
 unfolding check checkDiagram
 check-refuses bytes lent need =
     let w = wordAt bytes in
-    then-refuses Own (checkHeader bytes lent need) _ (λ r p e. let h = header-refuses bytes lent need r p e in (omega arith, h .2)) λ _ ok.
+    then-refuses Own (checkHeader bytes lent need) _ (λ r p e. let h = header-refuses false bytes lent need r p e in (omega arith, h .2)) λ _ ok.
     then-refuses Own (checkDiagram w (settings w) (nodes w)) _
-    (then-refuses Own (checkRecords w (settings w) (nodes w)) _ (λ r p e. let h = records-refuse w (settings w) (nodes w) r p e in (omega (arith, headed bytes lent need ok .few), omega arith))
-    λ _ _ r p e. let h = names-refuse w (nodes w) r p e in (omega (arith, headed bytes lent need ok .few), omega arith))
+    (then-refuses Own (checkRecords w (settings w) (nodes w)) _ (λ r p e. let h = records-refuse w (settings w) (nodes w) r p e in (omega (arith, headed false bytes lent need ok .few), omega arith))
+    λ _ _ r p e. let h = names-refuse w (nodes w) r p e in (omega (arith, headed false bytes lent need ok .few), omega arith))
     λ _ _. passes Own (settings w, nodes w)
 
 -- a refusal by 9 comes after the header's rules
@@ -105,28 +105,44 @@ nine-headed bytes lent need place e = go (checkHeader bytes lent need) refl _ e
   where
     go : (a : Answer (Unit {0})) → checkHeader bytes lent need ≡ a → (g : Unit {0} → Answer (ℕ × ℕ)) → andThen a g ≡ refusal 9 place → checkHeader bytes lent need ≡ pass
     go (value v) q g e = q
-    go (refusal r p) q g e = let i : r ≡ 9 = cc in absurd (header-refuses bytes lent need r p q .0 i)
+    go (refusal r p) q g e = let i : r ≡ 9 = cc in absurd (header-refuses false bytes lent need r p q .0 i)
+
+-- ... and after the records' rules
+pub nine-records : (bytes : List ℕ) (lent : ℕ) (need : ℕ → ℕ) (place : ℕ) → check bytes lent need ≡ refusal 9 place → let w = wordAt bytes in checkRecords w (settings w) (nodes w) ≡ pass
+unfolding check checkDiagram andThen
+nine-records bytes lent need place e = let w = wordAt bytes in go (checkRecords w (settings w) (nodes w)) refl (rw (nine-headed bytes lent need place e) at e)
+  where
+    go : let w = wordAt bytes in (a : Answer (Unit {0})) → checkRecords w (settings w) (nodes w) ≡ a
+        → andThen {B = ℕ × ℕ} (andThen a (λ _. checkNames w (nodes w))) (λ _. value (settings w, nodes w)) ≡ refusal 9 place → checkRecords w (settings w) (nodes w) ≡ pass
+    go (value v) q e = q
+    go (refusal r p) q e = let i : r ≡ 9 = cc in absurd (omega (arith, records-refuse (wordAt bytes) (settings (wordAt bytes)) (nodes (wordAt bytes)) r p q .0))
 
 -- 10 only where fewer places are lent than are needed
 abbrev pub Ten : ℕ → ℕ → ℕ → ℕ → Type 0
 Ten lent needed number place = number ≡ 10 → lent < needed
 
-pub ten-lent : (bytes : List ℕ) (lent : ℕ) (need : ℕ → ℕ) → Refuses (Ten lent (need (nodes (wordAt bytes)))) (check bytes lent need)
-unfolding check checkHeader checkDiagram
-ten-lent bytes lent need =
+pub header-lent : (loose : Bool) (bytes : List ℕ) (lent : ℕ) (need : ℕ → ℕ) → Refuses (Ten lent (need (nodes (wordAt bytes)))) (checkHeaderOf loose bytes lent need)
+unfolding checkHeaderOf
+header-lent loose bytes lent need =
     let w = wordAt bytes in
     let m = need (nodes w) in
-    then-refuses (Ten lent m) (checkHeader bytes lent need) _
-    (unless (Ten lent m) (ltb (length bytes) 8) 1 0 (λ i. omega arith)
+    unless (Ten lent m) (ltb (length bytes) 8) 1 0 (λ i. omega arith)
     (unless (Ten lent m) (ltb 65535 (nodes w)) 2 0 (λ i. omega arith)
     (unless (Ten lent m) (not (eqb (length bytes) (8 * (nodes w + 1)))) 1 0 (λ i. omega arith)
-    (unless (Ten lent m) (not (eqb (root w / 2) (nodes w))) 3 0 (λ i. omega arith)
-    (few m (ltb lent m) refl)))))
-    λ _ _. then-refuses (Ten lent m) (checkDiagram w (settings w) (nodes w)) _
-    (then-refuses (Ten lent m) (checkRecords w (settings w) (nodes w)) _ (λ r p q i. absurd (omega (arith, records-refuse w (settings w) (nodes w) r p q .0)))
-    λ _ _ r p q i. absurd (omega (arith, names-refuse w (nodes w) r p q .0)))
-    λ _ _. passes (Ten lent m) (settings w, nodes w)
+    (unless (Ten lent m) (wrongRoot loose (root w / 2) (nodes w)) 3 0 (λ i. omega arith)
+    (few m (ltb lent m) refl))))
   where
     few : (m : ℕ) (b : Bool) → ltb lent m ≡ b → Refuses (Ten lent m) (cond b (refusal 10 0) pass)
     few m true q = refuses (Ten lent m) 10 0 (λ _. ltb-true lent m q)
     few m false q = passes (Ten lent m) tt
+
+pub ten-lent : (bytes : List ℕ) (lent : ℕ) (need : ℕ → ℕ) → Refuses (Ten lent (need (nodes (wordAt bytes)))) (check bytes lent need)
+unfolding check checkDiagram
+ten-lent bytes lent need =
+    let w = wordAt bytes in
+    let m = need (nodes w) in
+    then-refuses (Ten lent m) (checkHeader bytes lent need) _ (header-lent false bytes lent need)
+    λ _ _. then-refuses (Ten lent m) (checkDiagram w (settings w) (nodes w)) _
+    (then-refuses (Ten lent m) (checkRecords w (settings w) (nodes w)) _ (λ r p q i. absurd (omega (arith, records-refuse w (settings w) (nodes w) r p q .0)))
+    λ _ _ r p q i. absurd (omega (arith, names-refuse w (nodes w) r p q .0)))
+    λ _ _. passes (Ten lent m) (settings w, nodes w)

@@ -23,9 +23,9 @@ holds w zero k x = true
 holds w (suc d) zero x = true
 holds w (suc d) (suc k) x = let e = branch w (suc k) x in flip (e % 2) (holds w d (e / 2) x)
 
--- whether setup x is permitted under a plain edge to node k: edges lead to smaller node numbers, so a path from k passes at most k nodes
+-- whether setup x is permitted under a plain edge to node k: edges lead to smaller heights, so a path from k passes at most as many nodes as k's height
 unfoldable pub plain : Words → ℕ → ℕ → Bool
-plain w k x = holds w k k x
+plain w k x = holds w (height w k) k x
 
 -- whether setup x is permitted under edge e
 unfoldable pub under : Words → ℕ → ℕ → Bool

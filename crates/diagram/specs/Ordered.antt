@@ -7,6 +7,15 @@ use lib.ListN.{length}
 use Rattle.words.specs.Words.{wordAt}
 use Rattle.diagram.specs.Format.{Words, settings, nodes, root, height, thenEdge, elseEdge}
 
+-- a loose diagram of n settings and N nodes: heights of 1 to n, and edges to nodes of smaller heights. Rules 4 and 6 as they stand for loose tables
+pub record LooseRecords (w : Words) (n N : ℕ) : Type 0 where
+  pub tall : (k : ℕ) → k < N → 0 < height w (suc k)
+  pub low : (k : ℕ) → k < N → height w (suc k) ≤ n
+  pub then-node : (k : ℕ) → k < N → thenEdge w (suc k) / 2 ≤ N
+  pub else-node : (k : ℕ) → k < N → elseEdge w (suc k) / 2 ≤ N
+  pub then-height : (k : ℕ) → k < N → height w (thenEdge w (suc k) / 2) < height w (suc k)
+  pub else-height : (k : ℕ) → k < N → height w (elseEdge w (suc k) / 2) < height w (suc k)
+
 -- an ordered diagram (OBDD) of n settings and N nodes: heights of 1 to n, and edges to smaller nodes of smaller heights. Rules 4 and 6
 pub record Ordered (w : Words) (n N : ℕ) : Type 0 where
   pub tall : (k : ℕ) → k < N → 0 < height w (suc k)

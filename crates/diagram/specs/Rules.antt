@@ -1,6 +1,6 @@
 -- Which tables are accepted: rules 1 to 9, and 10 in its place, in the order in which they are tried. Assumes nothing.
 use Prim.Native.Nat.{ℕ, suc, _+_, _-_, _*_, _/_, _%_}
-use mathlib.Core.Bool.{Bool, not, cond, _&&_, _||_}
+use mathlib.Core.Bool.{Bool, false, not, cond, _&&_, _||_}
 use mathlib.Core.List.{List}
 use mathlib.Core.Path.{_≡_}
 use lib.Dec.{eqb, ltb, leb}
@@ -36,16 +36,24 @@ named w m k = someBelow (λ j. names w (suc j) k) m
 unfoldable pub checkNamed : Words → ℕ → ℕ → Answer (Unit {0})
 checkNamed w N k = cond (named w N k) pass (refusal 9 k)
 
--- rules 1 to 3 of the header, and 10 where `lent` places of the sheet are lent and `need N` are needed
-unfoldable pub checkHeader : List ℕ → ℕ → (ℕ → ℕ) → Answer (Unit {0})
-checkHeader bytes lent need =
+-- a root edge may not lead to node v among N: a table's leads to the last node, a loose table's to any that there is
+unfoldable pub wrongRoot : Bool → ℕ → ℕ → Bool
+wrongRoot loose v N = cond loose (ltb N v) (not (eqb v N))
+
+-- rules 1 to 3 of the header, of a table or of a loose one, and 10 where `lent` places of the sheet are lent and `need N` are needed
+unfoldable pub checkHeaderOf : Bool → List ℕ → ℕ → (ℕ → ℕ) → Answer (Unit {0})
+checkHeaderOf loose bytes lent need =
     let w = wordAt bytes in
     cond (ltb (length bytes) 8) (refusal 1 0)
     (cond (ltb 65535 (nodes w)) (refusal 2 0)
     (cond (not (eqb (length bytes) (8 * (nodes w + 1)))) (refusal 1 0)
-    (cond (not (eqb (root w / 2) (nodes w))) (refusal 3 0)
+    (cond (wrongRoot loose (root w / 2) (nodes w)) (refusal 3 0)
     (cond (ltb lent (need (nodes w))) (refusal 10 0)
     pass))))
+
+-- ... of a table
+abbrev pub checkHeader : List ℕ → ℕ → (ℕ → ℕ) → Answer (Unit {0})
+checkHeader bytes lent need = checkHeaderOf false bytes lent need
 
 -- rules 4 to 8 record by record upward
 unfoldable pub checkRecords : Words → ℕ → ℕ → Answer (Unit {0})

@@ -42,7 +42,7 @@ fn has_misled(table: &[u8], k: Node, fields: Record) -> bool
 }
 
 // Whether a height is 0 or above n.
-fn is_unfit(n: u64, h: u64) -> bool
+pub fn is_unfit(n: u64, h: u64) -> bool
     ensures { λ r. ⌜ r ≡ (eqb h 0 || ltb n h) ⌝ }
 {
     if h == 0 {

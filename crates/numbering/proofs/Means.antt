@@ -22,7 +22,7 @@ cond-same false t e q = q
 module _ (R W L : Words) (n M c : ℕ) (Done : ℕ → Type 0) (D : Ordered R n M) (C : Closed R W M) (S : Numbered R W L M c Done) (few : c < 268435455) (all : (v : ℕ) → v < M → Done (suc v)) where
   -- what stands in the map for v means what v means
   image-plain : (d v x : ℕ) → v ≤ d → v ≤ M → 0 < W v → under L (W v - 1) x ≡ plain R v x
-  unfolding under plain holds flip image branch
+  unfolding under plain holds flip image branch height
   image-plain zero zero x l m k = let e : W 0 - 1 ≡ 0 = omega (arith, S .sink) in rw e
   image-plain (suc d) zero x l m k = let e : W 0 - 1 ≡ 0 = omega (arith, S .sink) in rw e
   image-plain zero (suc v) x l m k = absurd (omega arith)

@@ -1,27 +1,22 @@
 -- What a pair means under an operation: what its sides mean, or at the sinks what the operation makes of their flags. Assumes nothing.
-use Prim.Native.Nat.{ℕ, zero, suc, _/_, _%_, _<_}
-use mathlib.Core.Path.{_≡_, refl, ap₂}
+use Prim.Native.Nat.{ℕ, _/_, _%_, _<_}
+use mathlib.Core.Path.{_≡_, ap₂}
 use mathlib.Core.Bool.{Bool, true}
 use mathlib.Core.List.{List}
 use native.Mathlib.Omega.{arith}
 use Rattle.words.specs.Words.{wordAt}
 use Rattle.diagram.specs.Format.{Words, height}
 use Rattle.diagram.specs.Meaning.{bit, flip, holds, plain, under}
-use Rattle.diagram.specs.Reading.{Within, cofactor}
-use Rattle.diagram.proofs.Paths.{tall-node}
+use Rattle.diagram.specs.Reading.{cofactor}
 use Rattle.diagram.proofs.Cofactor.{cofactor-own}
 use Rattle.pairing.specs.Pairs.{firstEdge, secondEdge, pairHeight, follow}
 use Rattle.pairing.specs.Inner.{PairWithin, meaning}
 use Rattle.pairing.proofs.Pairs.{first-of-pair, second-of-pair, first-low, second-low, second-small}
 
 -- an edge to a node of height 0, which is the sink, permits every setup, or none if it is flagged
-under-sink : (t : List ℕ) (e : ℕ) → Within t (e / 2) → height (wordAt t) (e / 2) ≡ 0 → (x : ℕ) → under (wordAt t) e x ≡ flip (e % 2) true
+under-sink : (w : Words) (e : ℕ) → height w (e / 2) ≡ 0 → (x : ℕ) → under w e x ≡ flip (e % 2) true
 unfolding under plain holds
-under-sink t e W low x = go (e / 2) refl
-  where
-    go : (k : ℕ) → k ≡ e / 2 → flip (e % 2) (holds (wordAt t) k k x) ≡ flip (e % 2) true
-    go zero q = refl
-    go (suc k) q = absurd (omega (arith, low, tall-node (wordAt t) (W .settings) (W .nodes) (W .holds .ordered) (e / 2) (omega arith) (W .inside)))
+under-sink w e low x = rw low
 
 module _ (t u : List ℕ) (op : Bool → Bool → Bool) (pair : ℕ) (I : PairWithin t u pair) where
   abbrev w : Words
@@ -46,5 +41,5 @@ module _ (t u : List ℕ) (op : Bool → Bool → Bool) (pair : ℕ) (I : PairWi
   pub meaning-sink : pairHeight w v pair ≡ 0 → (x : ℕ) → meaning w v op pair x ≡ op (flip (firstEdge pair % 2) true) (flip (secondEdge pair % 2) true)
   unfolding meaning
   meaning-sink low x =
-      ap₂ op (under-sink t (firstEdge pair) (I .first) (omega (arith, first-low t u pair I)) x)
-      (under-sink u (secondEdge pair) (I .second) (omega (arith, second-low t u pair I)) x)
+      ap₂ op (under-sink w (firstEdge pair) (omega (arith, first-low t u pair I)) x)
+      (under-sink v (secondEdge pair) (omega (arith, second-low t u pair I)) x)

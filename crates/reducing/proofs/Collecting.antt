@@ -10,12 +10,12 @@ use Rattle.words.proofs.Cases.{less, same, more, tri}
 use Rattle.diagram.specs.Count.{indicator, countBelow}
 use Rattle.diagram.proofs.CountLaws.{count-le, count-mono}
 use Rattle.diagram.proofs.Edges.{turn-lt}
-use Rattle.numbering.specs.Renewal.{normal}
 use Rattle.numbering.specs.Numbered.{Good, dropped, made}
 use Rattle.sorting.specs.Sorting.{Among}
 use Rattle.reducing.specs.Levels.{through}
 use Rattle.reducing.specs.Inner.{edgeOf, resultOf, recordsOf}
-use Rattle.reducing.specs.Steps.{Nodes, countOf, lastOf, Staged, Ready, Leads, Renewed, sideOf, normalOf, Candidate, Collected}
+use Rattle.carrying.specs.Words.{sortWord}
+use Rattle.reducing.specs.Steps.{Nodes, countOf, lastOf, Staged, Ready, Leads, Renewed, sideOf, wordOf, Candidate, Collected}
 use Rattle.reducing.proofs.Lists.{cursor-first, none-behind, turn-counts, walk-falls, cursor-next, counts-on, walked}
 
 -- what an edge becomes depends on its node only
@@ -41,7 +41,7 @@ unfolding countBelow
 count-heights g h zero p = refl
 count-heights g h (suc m) p = omega (arith, count-heights g h m p, height-sum h (g m) p)
 
-module _ (D : Nodes) (W₀ : ℕ → ℕ) (P c h first : ℕ) (R : Ready D W₀ P c h first) where
+module _ {few : Bool} (D : Nodes) (W₀ : ℕ → ℕ) (P c h first : ℕ) (R : Ready few D W₀ P c h first) where
   abbrev S : Staged D W₀ P c (h - 1)
   S = R .staged
 
@@ -76,7 +76,7 @@ module _ (D : Nodes) (W₀ : ℕ → ℕ) (P c h first : ℕ) (R : Ready D W₀ 
   pub ready-side : (b : Bool) (i : ℕ) → i < D .count → D .height i ≤ h → 0 < D .height i → sideOf D W₀ P b i < 131072
   ready-side b i l q p = let n = ready-node b i l q p in through-small (resultOf W₀ P) (D .edge b i) (ready-small _ (n .0) (n .1))
 
-  pub collected-first : Collected D W₀ W₀ P c h c first
+  pub collected-first : Collected few D W₀ W₀ P c h c first
   collected-first = record {
     cursor = cursor-first D h first (R .begins);
     up = omega arith;
@@ -90,11 +90,11 @@ module _ (D : Nodes) (W₀ : ℕ → ℕ) (P c h first : ℕ) (R : Ready D W₀ 
   }
 
   -- the words end in their region
-  pub collected-low : (W : ℕ → ℕ) (end : ℕ) → Collected D W₀ W P c h end 0 → end ≤ P
+  pub collected-low : (W : ℕ → ℕ) (end : ℕ) → Collected few D W₀ W P c h end 0 → end ≤ P
   collected-low W end K = omega (arith, K .room, ready-room, ready-few)
 
   -- a turn: the node at next - 1
-  module _ (W : ℕ → ℕ) (end next : ℕ) (K : Collected D W₀ W P c h end next) (turn : 0 < next) where
+  module _ (W : ℕ → ℕ) (end next : ℕ) (K : Collected few D W₀ W P c h end next) (turn : 0 < next) where
     abbrev i : ℕ
     i = next - 1
 
@@ -103,6 +103,9 @@ module _ (D : Nodes) (W₀ : ℕ → ℕ) (P c h first : ℕ) (R : Ready D W₀ 
 
     pub turn-inside : i < P
     turn-inside = omega (arith, inside, S .few)
+
+    pub turn-low : few ≡ true → i < 65536
+    turn-low e = omega (arith, inside, R .count-low e)
 
     pub turn-room : end < P
     turn-room = omega (arith, K .room, ready-room, ready-few, turn-counts D h next (K .cursor) turn)
@@ -124,7 +127,7 @@ module _ (D : Nodes) (W₀ : ℕ → ℕ) (P c h first : ℕ) (R : Ready D W₀ 
     turn-leads b = rw (waited b) (omega (arith, node b .0, S .few), rw (lower b) (ready-small (D .edge b i / 2) (node b .0) (node b .1)))
 
     -- they have become others
-    module _ (W′ : ℕ → ℕ) (N : Renewed W W′ P i h end) (next′ : ℕ) (next-is : next′ ≡ W′ (2 * P + i)) where
+    module _ (W′ : ℕ → ℕ) (N : Renewed few W W′ P i h end) (next′ : ℕ) (next-is : next′ ≡ W′ (2 * P + i)) where
       stays : (j : ℕ) → j < end → W′ j ≡ W j
       stays j l = N .others j (λ e. omega (arith, turn-room)) (λ e. omega (arith, turn-room)) (λ e. omega arith)
 
@@ -144,11 +147,11 @@ module _ (D : Nodes) (W₀ : ℕ → ℕ) (P c h first : ℕ) (R : Ready D W₀ 
       other true j l n = N .others (P + j) (λ e. n (omega arith)) (λ e. omega (arith, S .few)) (λ e. omega (arith, turn-room))
       other false j l n = N .others (3 * P + j) (λ e. omega (arith, turn-inside)) (λ e. n (omega arith)) (λ e. omega (arith, turn-room))
 
-      word : W′ end ≡ normalOf D W₀ P h i
-      word = N .made ∙ ap₂ (normal h) (side true) (side false)
+      word : W′ end ≡ wordOf few D W₀ P h i
+      word = N .made ∙ ap₂ (λ (t e : ℕ). sortWord few h t e i) (side true) (side false)
 
-      collected-next : (end′ : ℕ) → end ≤ end′ → end′ ≤ end + 1 → ((sideOf D W₀ P true i ≡ sideOf D W₀ P false i → ⊥) → Among W′ c end′ (normalOf D W₀ P h i))
-          → ((k : ℕ) → end ≤ k → k < end′ → Candidate D W₀ P h (W′ k)) → Collected D W₀ W′ P c h end′ next′
+      collected-next : (end′ : ℕ) → end ≤ end′ → end′ ≤ end + 1 → ((sideOf D W₀ P true i ≡ sideOf D W₀ P false i → ⊥) → Among W′ c end′ (wordOf few D W₀ P h i))
+          → ((k : ℕ) → end ≤ k → k < end′ → Candidate few D W₀ P h (W′ k)) → Collected few D W₀ W′ P c h end′ next′
       collected-next end′ a b here new = record {
         cursor = cursor-next D h next (K .cursor) turn W′ P next′ links next-is;
         up = omega (arith, K .up);
@@ -159,7 +162,7 @@ module _ (D : Nodes) (W₀ : ℕ → ℕ) (P c h first : ℕ) (R : Ready D W₀ 
         sides = λ s. walked D h next (K .cursor) turn W′ P next′ links next-is (λ j. edgeOf W′ P s j ≡ sideOf D W₀ P s j) (side s)
             (λ j l m q. other s j l (λ e. omega arith) ∙ K .sides s j l m q);
         made = walked D h next (K .cursor) turn W′ P next′ links next-is
-            (λ j. (sideOf D W₀ P true j ≡ sideOf D W₀ P false j → ⊥) → Among W′ c end′ (normalOf D W₀ P h j)) here
+            (λ j. (sideOf D W₀ P true j ≡ sideOf D W₀ P false j → ⊥) → Among W′ c end′ (wordOf few D W₀ P h j)) here
             (λ j l m q n. let f = K .made j l m q n in record { at = f .at; from = f .from; to = omega (arith, f .to); is = stays (f .at) (f .to) ∙ f .is });
         came = λ k l m. elim (tri k end) [
           | less q ↦ rw (stays k q) (K .came k l q)
@@ -169,16 +172,16 @@ module _ (D : Nodes) (W₀ : ℕ → ℕ) (P c h first : ℕ) (R : Ready D W₀ 
       }
 
       -- equal ones: the word does not count
-      collected-same : W′ (P + i) ≡ W′ (3 * P + i) → Collected D W₀ W′ P c h end next′
+      collected-same : W′ (P + i) ≡ W′ (3 * P + i) → Collected few D W₀ W′ P c h end next′
       collected-same e = collected-next end (omega arith) (omega arith) (λ n. absurd (n (sym (side true) ∙ e ∙ side false))) (λ k l m. absurd (omega arith))
 
       -- different ones: it does
-      collected-more : (W′ (P + i) ≡ W′ (3 * P + i) → ⊥) → Collected D W₀ W′ P c h (end + 1) next′
+      collected-more : (W′ (P + i) ≡ W′ (3 * P + i) → ⊥) → Collected few D W₀ W′ P c h (end + 1) next′
       collected-more n = collected-next (end + 1) (omega arith) (omega arith) (λ _. record { at = end; from = K .up; to = omega arith; is = word })
           (λ k l m. let e : k ≡ end = omega arith in
           rw e (record { node = i; inside = inside; level = K .cursor .at turn; apart = λ q. n (side true ∙ q ∙ sym (side false)); is = word }))
 
       -- by the answer r, whether they differ
-      pub collected-turn : (r : Bool) (end′ : ℕ) → r ≡ not (eqb (W′ (P + i)) (W′ (3 * P + i))) → ((r ≡ true) × (end′ ≡ end + 1)) ⊎ ((r ≡ false) × (end′ ≡ end)) → Collected D W₀ W′ P c h end′ next′
+      pub collected-turn : (r : Bool) (end′ : ℕ) → r ≡ not (eqb (W′ (P + i)) (W′ (3 * P + i))) → ((r ≡ true) × (end′ ≡ end + 1)) ⊎ ((r ≡ false) × (end′ ≡ end)) → Collected few D W₀ W′ P c h end′ next′
       collected-turn r end′ r-is (inl q) = rw (q .1) (collected-more (eqb-false (W′ (P + i)) (W′ (3 * P + i)) (not-true (eqb (W′ (P + i)) (W′ (3 * P + i))) (sym r-is ∙ q .0))))
       collected-turn r end′ r-is (inr q) = rw (q .1) (collected-same (eqb-true (W′ (P + i)) (W′ (3 * P + i)) (not-false (eqb (W′ (P + i)) (W′ (3 * P + i))) (sym r-is ∙ q .0))))

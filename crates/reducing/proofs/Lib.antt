@@ -4,6 +4,8 @@ pub mod Renewing
 pub mod Collecting
 pub mod Giving
 pub mod Raising
+pub mod Searching
+pub mod Passing
 pub mod Stages
 pub mod Heights
 pub mod Records

@@ -35,7 +35,7 @@ module _ (g : ℕ → ℕ) (E : Bool → ℕ → ℕ) (r : ℕ → ℕ) (L : Wor
   record-named k l =
       let o = S .origin k l in
       let e : r (o .node) / 2 ≡ suc k = omega (arith, o .number) in
-      subst (λ (u : ℕ). NamedNow u) e (downward g E n M D (λ i. NamedNow (r i / 2)) top named (inl refl) child-named (o .node) (o .inside))
+      subst (λ (u : ℕ). NamedNow u) e (downward g E n M D (λ i. NamedNow (r i / 2)) top named (inl refl) child-named (o .node) (o .inside) (o .tall))
 
   -- the records are a proper diagram, of which the top node's is the last
   pub levelled-proper : Proper L n c × (r top / 2 ≡ c)

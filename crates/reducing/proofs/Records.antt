@@ -1,14 +1,16 @@
--- Nodes numbered height by height: their records are a reduced diagram. Assumes nothing.
-use Prim.Native.Nat.{ℕ, suc, _/_, _%_, _≤_, _<_}
+-- Nodes numbered height by height: their records are a reduced diagram, and fewer than the nodes where node 0 has height 0. Assumes nothing.
+use Prim.Native.Nat.{ℕ, suc, _-_, _/_, _%_, _≤_, _<_}
 use mathlib.Core.Path.{_≡_, refl, sym, ap, _∙_}
 use mathlib.Core.Bool.{Bool, true, false, cond}
 use native.Mathlib.Omega.{arith}
+use Rattle.words.proofs.Cases.{less, same, more, tri}
 use Rattle.diagram.specs.Format.{Words, highField, middleField, lowField, height, thenEdge, elseEdge}
 use Rattle.diagram.specs.Ordered.{Reduced}
 use Rattle.diagram.specs.Reading.{turn}
 use Rattle.diagram.proofs.Paths.{side}
 use Rattle.diagram.proofs.Edges.{turn-inj, turn-node, turn-lt}
 use Rattle.diagram.proofs.Agree.{ordered-sides}
+use Rattle.diagram.proofs.Members.{distinct-le}
 use Rattle.numbering.specs.Renewal.{normal}
 use Rattle.numbering.specs.Numbered.{Good, dropped, made}
 use Rattle.numbering.proofs.Images.{turn-self, normal-high, normal-side}
@@ -101,3 +103,20 @@ module _ (g : ℕ → ℕ) (E : Bool → ℕ → ℕ) (r : ℕ → ℕ) (L : Wor
         let s = made-side k (o .node) (o .inside) (o .tall) (o .low) (o .makes) in
         o .apart (turn-inj (new true (o .node) % 2) (new true (o .node)) (new false (o .node)) (sym (s true) ∙ q ∙ s false));
   }
+
+-- where node 0 has height 0 there are fewer records than nodes: each record has a higher node of its own
+pub levelled-fewer : (g : ℕ → ℕ) (E : Bool → ℕ → ℕ) (r : ℕ → ℕ) (L : Words) (M c h : ℕ) → Levelled g E r L M c h → 0 < M → g 0 ≡ 0 → c < M
+levelled-fewer g E r L M c h S some sink =
+    omega (
+      arith,
+      distinct-le c (M - 1) (λ k l. S .origin k l .node - 1) (λ k l. omega (arith, above k l, S .origin k l .inside))
+          (λ j k l m e. let same-node : S .origin j l .node ≡ S .origin k m .node = omega (arith, above j l, above k m) in omega (arith, S .origin j l .number, S .origin k m .number, ap r same-node)),
+    )
+  where
+    -- such a node is not node 0
+    above : (k : ℕ) (l : k < c) → 0 < S .origin k l .node
+    above k l = elim (tri 0 (S .origin k l .node)) [
+      | less q ↦ q
+      | same q ↦ absurd (omega (arith, S .origin k l .tall, ap g q))
+      | more q ↦ absurd (omega arith)
+    ]

@@ -8,14 +8,14 @@ use lib.Dec.{eqb}
 use lib.ListN.{length}
 use Rattle.words.specs.Words.{wordAt, putWord}
 use Rattle.words.proofs.Stores.{Updated}
-use Rattle.numbering.specs.Renewal.{normal}
 use Rattle.words.proofs.Stores.{stored, stored-long}
 use Rattle.reducing.specs.Levels.{through}
 use Rattle.reducing.specs.Inner.{edgeOf, resultOf}
+use Rattle.carrying.specs.Words.{sortWord}
 use Rattle.reducing.specs.Steps.{Renewed}
 
-module _ (s a b d : List ℕ) (P i h end t e z : ℕ) (long : 32 * P ≤ length s) (inside : i < P) (low : end < P)
-    (t-is : t ≡ through (resultOf (wordAt s) P) (wordAt s (P + i))) (e-is : e ≡ through (resultOf (wordAt s) P) (wordAt s (3 * P + i))) (z-is : z ≡ normal h t e)
+module _ (few : Bool) (s a b d : List ℕ) (P i h end t e z : ℕ) (long : 32 * P ≤ length s) (inside : i < P) (low : end < P)
+    (t-is : t ≡ through (resultOf (wordAt s) P) (wordAt s (P + i))) (e-is : e ≡ through (resultOf (wordAt s) P) (wordAt s (3 * P + i))) (z-is : z ≡ sortWord few h t e i)
     (a-is : a ≡ putWord s (P + i) t) (b-is : b ≡ putWord a (3 * P + i) e) (d-is : d ≡ putWord b end z) where
   a-long : length a ≡ length s
   a-long = stored-long s a (P + i) t a-is (omega arith)
@@ -46,10 +46,10 @@ module _ (s a b d : List ℕ) (P i h end t e z : ℕ) (long : 32 * P ≤ length 
     sides true = then-here ∙ t-is
     sides false = else-here ∙ e-is
 
-    pub renewed : Renewed (wordAt s) (wordAt d) P i h end
+    pub renewed : Renewed few (wordAt s) (wordAt d) P i h end
     renewed = record {
       sides = sides;
-      made = third .here ∙ z-is ∙ sym (ap₂ (normal h) then-here else-here);
+      made = third .here ∙ z-is ∙ sym (ap₂ (λ (t e : ℕ). sortWord few h t e i) then-here else-here);
       others = λ j l m n. third .other j n ∙ second .other j m ∙ first .other j l;
     }
 

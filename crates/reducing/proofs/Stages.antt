@@ -48,10 +48,11 @@ module _ (W : ℕ → ℕ) (P n M : ℕ) (H : HoldsNodes W P n M) where
     }
 
 -- the next height
-pub staged-ready : (D : Nodes) (W : ℕ → ℕ) (P c h first : ℕ) → Staged D W P c h → h < 63 → c ≤ 65535 → first ≡ lastOf (D .height) (h + 1) (D .count) → Ready D W P c (h + 1) first
-staged-ready D W P c h first S l m e =
+pub staged-ready : (few : Bool) (D : Nodes) (W : ℕ → ℕ) (P c h first : ℕ) → Staged D W P c h → h < 63 → c ≤ 65535 → first ≡ lastOf (D .height) (h + 1) (D .count)
+    → (few ≡ true → D .count ≤ 65536) → Ready few D W P c (h + 1) first
+staged-ready few D W P c h first S l m e f =
     let q : h + 1 - 1 ≡ h = omega arith in
-    record { some = omega arith; low = omega arith; small = m; staged = rw q S; begins = e }
+    record { some = omega arith; low = omega arith; small = m; staged = rw q S; begins = e; count-low = f }
 
 -- the nodes of the sheet W are numbered in X up to height h
 module _ (W X : ℕ → ℕ) (P n M c h : ℕ) (S : Staged (nodesOf W P n M) X P c h) where

@@ -8,7 +8,7 @@ use native.Mathlib.Nat.{le-refl, mod-lt}
 use native.Mathlib.Omega.{arith}
 use lib.Pow.{pow-pos}
 use Rattle.words.specs.Words.{wordAt}
-use Rattle.diagram.specs.Format.{Words, root}
+use Rattle.diagram.specs.Format.{Words, root, height}
 use Rattle.diagram.specs.Meaning.{bit, flip, holds, plain, under, permitted}
 use Rattle.diagram.specs.Answer.{refusal}
 use Rattle.diagram.specs.Ordered.{Ordered, Reduced, Accepted}
@@ -74,14 +74,14 @@ module _ (g : ℕ → ℕ) (E : Bool → ℕ → ℕ) (n M : ℕ) (D : Loose g E
 
 module _ (g : ℕ → ℕ) (E : Bool → ℕ → ℕ) (r : ℕ → ℕ) (L : Words) (n M c h : ℕ) (D : Loose g E n M) (S : Levelled g E r L M c h) (low : h ≤ n)
     (s : ℕ → ℕ) (F : ℕ → ℕ → Bool) (means : Means g E s F M) (kept : (i : ℕ) → i < M → g i ≡ 0 → s i ≡ r i) where
-  -- where a reduced diagram has an edge for every node, each record has a twin in it
-  record-twin : (w : Words) (N : ℕ) → Reduced w n N → ((i : ℕ) → i < M → EdgeFor w N (F i)) → (k : ℕ) → k ≤ c → Twin L w N k
-  unfolding plain holds
+  -- where a reduced diagram has an edge for every node above height 0, each record has a twin in it
+  record-twin : (w : Words) (N : ℕ) → Reduced w n N → ((i : ℕ) → i < M → 0 < g i → EdgeFor w N (F i)) → (k : ℕ) → k ≤ c → Twin L w N k
+  unfolding plain holds height
   record-twin w N R f zero l = record { node = 0; inside = omega arith; means = λ x. refl }
   record-twin w N R f (suc k) l =
       let o = S .origin k l in
       let v = o .node in
-      let a = f v (o .inside) in
+      let a = f v (o .inside) (o .tall) in
       let e : r v / 2 ≡ suc k = omega (arith, o .number) in
       subst (Twin L w N) e (record {
         node = a .edge / 2;
@@ -92,7 +92,7 @@ module _ (g : ℕ → ℕ) (E : Bool → ℕ → ℕ) (r : ℕ → ℕ) (L : Wor
 
 module _ (g : ℕ → ℕ) (E : Bool → ℕ → ℕ) (r : ℕ → ℕ) (L : Words) (n M c h : ℕ) (D : Loose g E n M) (S : Levelled g E r L M c h) (low : h ≤ n) (many : 65535 < c)
     (top : ℕ) (inside : top < M) (named : Named g E M top) (s : ℕ → ℕ) (F : ℕ → ℕ → Bool) (means : Means g E s F M) (kept : (i : ℕ) → i < M → g i ≡ 0 → s i ≡ r i)
-    (P : ℕ → Bool) (permits : (x : ℕ) → x < 2 ^ n → F top x ≡ P x) where
+    (f : ℕ) (P : ℕ → Bool) (permits : (x : ℕ) → x < 2 ^ n → flip f (F top x) ≡ P x) where
   -- no accepted table permits the set: it would have as many nodes
   no-table : (t : List ℕ) (N : ℕ) → TableFor n P t N → ⊥
   unfolding permitted
@@ -111,20 +111,21 @@ module _ (g : ℕ → ℕ) (E : Bool → ℕ → ℕ) (r : ℕ → ℕ) (L : Wor
       O : Ordered w n N
       O = R .ordered
 
-      -- the root edge is for the top node
+      -- the root edge, turned over if P is the opposite, is for the top node
       first : EdgeFor w N (F top)
       first =
           let l : root w / 2 ≤ N = omega (arith, A .root-node) in
           record {
-            edge = root w;
-            inside = l;
+            edge = turn f (root w);
+            inside = rw (turn-node f (root w)) l;
             means = λ x. let b = mod-lt x (pow-pos n) in
-                sym (under-mod w n N O (root w) n x l (height-le-settings w n N O (root w / 2) l)) ∙ T .permits (x % 2 ^ n) b
-                ∙ sym (permits (x % 2 ^ n) b) ∙ means-mod g E n M D s F means top inside n x (D .low top inside);
+                turn-under w f (root w) x
+                ∙ ap (flip f) (sym (under-mod w n N O (root w) n x l (height-le-settings w n N O (root w / 2) l)) ∙ T .permits (x % 2 ^ n) b ∙ sym (permits (x % 2 ^ n) b))
+                ∙ flip-twice f (F top (x % 2 ^ n)) ∙ means-mod g E n M D s F means top inside n x (D .low top inside);
           }
 
-      -- so there is one for every node
-      edges : (i : ℕ) → i < M → EdgeFor w N (F i)
+      -- so there is one for every node above height 0
+      edges : (i : ℕ) → i < M → 0 < g i → EdgeFor w N (F i)
       edges = downward g E n M D (λ i. EdgeFor w N (F i)) top named first (child-edge g E n M D s F means w N O)
 
   -- so the answer is 16: too many nodes

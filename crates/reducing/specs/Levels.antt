@@ -14,9 +14,9 @@ pub record Loose (g : ℕ → ℕ) (E : Bool → ℕ → ℕ) (n M : ℕ) : Type
   pub inside : (b : Bool) (i : ℕ) → i < M → 0 < g i → E b i / 2 < M
   pub lower : (b : Bool) (i : ℕ) → i < M → 0 < g i → g (E b i / 2) < g i
 
--- every node but `top` is named by an edge of a node
+-- every node above height 0 but `top` is named by an edge of a node
 abbrev pub Named : (ℕ → ℕ) → (Bool → ℕ → ℕ) → ℕ → ℕ → Type 0
-Named g E M top = (i : ℕ) → i < M → (i ≡ top → ⊥) → (j : ℕ) × (b : Bool) × (j < M) × (0 < g j) × (E b j / 2 ≡ i)
+Named g E M top = (i : ℕ) → i < M → 0 < g i → (i ≡ top → ⊥) → (j : ℕ) × (b : Bool) × (j < M) × (0 < g j) × (E b j / 2 ≡ i)
 
 -- F i says which setups node i permits: all or none at height 0, by the flag s i; or else what the edge permits that the setup takes
 pub record Means (g : ℕ → ℕ) (E : Bool → ℕ → ℕ) (s : ℕ → ℕ) (F : ℕ → ℕ → Bool) (M : ℕ) : Type 0 where

@@ -2,7 +2,7 @@
 // The sheet has regions of p places. At first node i has its two edges (2 × node + flag) at p + i and 3 p + i, and its height at 2 p + i; a node of height 0 has its flag at p + i.
 // In the end the edge that node i has become stands at p + i, and the records stand from place 0 on.
 ghost use mathlib.Core.Path.{_≡_};
-ghost use mathlib.Core.Bool.{not};
+ghost use mathlib.Core.Bool.{true, not};
 ghost use Prim.Native.Nat.{suc, _+_, _*_, _/_, _≤_, _<_};
 ghost use lib.Dec.{eqb};
 ghost use lib.ListN.{length, replicate};
@@ -36,7 +36,7 @@ fn link(sheet: &mut [u8], heads: &mut [u64; 64], p: usize, count: usize)
 }
 
 // What edge e becomes.
-fn through_of(sheet: &[u8], p: usize, e: u64) -> Edge
+pub fn through_of(sheet: &[u8], p: usize, e: u64) -> Edge
     requires { ⌜ 8 * (p + e / 2) + 8 ≤ length (now sheet) ⌝ }
     ensures { λ r. ⌜ r .value ≡ through (resultOf (wordAt (now (sheet .entry))) p) e ⌝ }
 {
@@ -44,11 +44,11 @@ fn through_of(sheet: &[u8], p: usize, e: u64) -> Edge
     Edge { value: place }.turned_by(Edge { value: e })
 }
 
-// Puts what the edges of node i, of height h, become in their places, stores their word at `end`, and answers whether they differ.
-fn renew(sheet: &mut [u8], p: usize, i: usize, h: u64, end: usize) -> bool
-    requires { ⌜ (32 * p ≤ length (now sheet)) × (i < p) × (end < p) × (h ≤ 63) × Leads (wordAt (now sheet)) p i ⌝ }
+// Puts what the edges of node i, of height h, become in their places, stores its word at `end`, and answers whether they differ.
+fn renew(sheet: &mut [u8], few: bool, p: usize, i: usize, h: u64, end: usize) -> bool
+    requires { ⌜ (32 * p ≤ length (now sheet)) × (i < p) × (end < p) × (h ≤ 63) × Leads (wordAt (now sheet)) p i × (few ≡ true → i < 65536) ⌝ }
     ensures { λ r. ⌜ (length (now (sheet .exit)) ≡ length (now (sheet .entry)))
-        × Renewed (wordAt (now (sheet .entry))) (wordAt (now (sheet .exit))) p i h end
+        × Renewed few (wordAt (now (sheet .entry))) (wordAt (now (sheet .exit))) p i h end
         × (r ≡ not (eqb (wordAt (now (sheet .exit)) (p + i)) (wordAt (now (sheet .exit)) (3 * p + i)))) ⌝ }
 {
     let high = p + i;
@@ -57,21 +57,21 @@ fn renew(sheet: &mut [u8], p: usize, i: usize, h: u64, end: usize) -> bool
     let e = through_of(sheet, p, words::word_at(sheet, low));
     words::put_word(sheet, high, t.value);
     words::put_word(sheet, low, e.value);
-    words::put_word(sheet, end, numbering::normal_word(h, t, e));
+    words::put_word(sheet, end, carrying::word_of(few, h, t, e, i));
     t.value != e.value
 }
 
 // Collects the words of the nodes of height h whose edges become different ones, from place c on, and answers where they end.
-fn collect(sheet: &mut [u8], p: usize, c: usize, h: u64, first: u64) -> usize
-    requires { ⌜ (32 * p ≤ length (now sheet)) × ((D : Nodes) × Ready D (wordAt (now sheet)) p c h first) ⌝ }
+fn collect(sheet: &mut [u8], few: bool, p: usize, c: usize, h: u64, first: u64) -> usize
+    requires { ⌜ (32 * p ≤ length (now sheet)) × ((D : Nodes) × Ready few D (wordAt (now sheet)) p c h first) ⌝ }
     ensures { λ r. ⌜ (length (now (sheet .exit)) ≡ length (now (sheet .entry)))
-        × Collects (wordAt (now (sheet .entry))) (wordAt (now (sheet .exit))) p c h first r 0 ⌝ }
+        × Collects few (wordAt (now (sheet .entry))) (wordAt (now (sheet .exit))) p c h first r 0 ⌝ }
 {
     let mut end = c;
     let mut next = first;
     while 0 < next {
         let i = (next - 1) as usize;
-        if renew(sheet, p, i, h, end) {
+        if renew(sheet, few, p, i, h, end) {
             end += 1;
         }
         next = words::word_at(sheet, 2 * p + i);
@@ -113,13 +113,16 @@ fn number(sheet: &mut [u8], p: usize, c: usize, end: usize, h: u64, first: u64)
 }
 
 // Numbers the nodes of height h, after c records of lower heights, and answers how many records there are now.
-fn level(sheet: &mut [u8], p: usize, c: usize, h: u64, first: u64) -> usize
-    requires { ⌜ (32 * p ≤ length (now sheet)) × ((D : Nodes) × Ready D (wordAt (now sheet)) p c h first) ⌝ }
+fn level(sheet: &mut [u8], few: bool, p: usize, c: usize, h: u64, first: u64) -> usize
+    requires { ⌜ (32 * p ≤ length (now sheet)) × ((D : Nodes) × Ready few D (wordAt (now sheet)) p c h first) ⌝ }
     ensures { λ r. ⌜ (length (now (sheet .exit)) ≡ length (now (sheet .entry)))
-        × Raises (wordAt (now (sheet .entry))) (wordAt (now (sheet .exit))) p c h first r ⌝ }
+        × Raises few (wordAt (now (sheet .entry))) (wordAt (now (sheet .exit))) p c h first r ⌝ }
 {
-    let end = collect(sheet, p, c, h, first);
+    let end = collect(sheet, few, p, c, h, first);
     sorting::sort(sheet, c, end);
+    if few {
+        return carrying::number_carried(sheet, p, c, end, h);
+    }
     let r = sorting::unique(sheet, c, end);
     number(sheet, p, c, r, h, first);
     r
@@ -133,12 +136,13 @@ pub fn reduce(sheet: &mut [u8], p: usize, count: usize, n: u64) -> Reduced
 {
     let mut heads = [0u64; 64];
     link(sheet, &mut heads, p, count);
+    let few = count <= 65536;
     let mut c = 0;
     let mut h = 0;
     while h < n {
         h += 1;
         let first = heads[h as usize];
-        c = level(sheet, p, c, h, first);
+        c = level(sheet, few, p, c, h, first);
         if 65535 < c {
             return Reduced::TooMany;
         }

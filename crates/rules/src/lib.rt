@@ -1,7 +1,7 @@
 // Refusals, and the rules of the header: 1 to 3, and 10.
 ghost use mathlib.Core.Path.{_≡_};
 ghost use Prim.Native.Nat.{_+_, _*_, _≤_, _<_, _^_};
-ghost use Rattle.diagram.specs.Rules.{checkHeader};
+ghost use Rattle.diagram.specs.Rules.{wrongRoot, checkHeaderOf};
 ghost use Rattle.rules.specs.Refusals.{numberOf, placeOf, verdictAs};
 use diagram::Node;
 
@@ -105,10 +105,20 @@ pub enum Verdict {
     Refused(Refusal),
 }
 
-// Rules 1 to 3, and 10 where the sheet has `places` places and each × N + more are needed.
-pub fn check_header(table: &[u8], places: usize, each: usize, more: usize) -> Verdict
+// Whether a root edge may not lead to node v among `nodes`.
+fn is_wrong_root(v: usize, nodes: usize, loose: bool) -> bool
+    ensures { λ r. ⌜ r ≡ wrongRoot loose v nodes ⌝ }
+{
+    if loose {
+        return nodes < v;
+    }
+    v != nodes
+}
+
+// Rules 1 to 3, of a table or of a loose one, and 10 where the sheet has `places` places and each × N + more are needed.
+pub fn check_header(table: &[u8], places: usize, each: usize, more: usize, loose: bool) -> Verdict
     requires { ⌜ (each ≤ 64) × (more ≤ 512) ⌝ }
-    ensures { λ r. ⌜ verdictAs r ≡ checkHeader (now (table .entry)) places (λ N. each * N + more) ⌝ }
+    ensures { λ r. ⌜ verdictAs r ≡ checkHeaderOf loose (now (table .entry)) places (λ N. each * N + more) ⌝ }
 {
     if table.len() < 8 {
         return Verdict::Refused(Refusal::Length);
@@ -121,7 +131,7 @@ pub fn check_header(table: &[u8], places: usize, each: usize, more: usize) -> Ve
     if table.len() != 8 * (nodes + 1) {
         return Verdict::Refused(Refusal::Length);
     }
-    if header.root.node().0 != nodes {
+    if is_wrong_root(header.root.node().0, nodes, loose) {
         return Verdict::Refused(Refusal::Root);
     }
     if places < each * nodes + more {

@@ -1,4 +1,4 @@
--- The samples, those of lists, of sheets, of the way down, of the order of the rules and of setups ruled out, and that demand 3 is not empty.
+-- The samples, those of lists, of sheets, of the way down, of the order of the rules, of setups ruled out and of a loose table, and that demand 3 is not empty.
 pub mod PartSamples
 pub mod PartsOfA
 pub mod Samples
@@ -8,3 +8,4 @@ pub mod Sheets
 pub mod Settings
 pub mod EdgeFirst
 pub mod Exclusion
+pub mod Loose

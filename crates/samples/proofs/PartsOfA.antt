@@ -8,7 +8,7 @@ use Rattle.diagram.specs.Format.{highField, middleField, lowField, settings, no
 use Rattle.diagram.specs.Meaning.{bit, branch, flip, holds, plain, under, permitted}
 use Rattle.diagram.specs.Count.{indicator, countBelow, someBelow}
 use Rattle.diagram.specs.Answer.{value, refusal, andThen, each}
-use Rattle.diagram.specs.Rules.{Accepts, misled, checkRecord, names, named, checkNamed, checkHeader, checkRecords, checkNames, checkDiagram, check}
+use Rattle.diagram.specs.Rules.{Accepts, misled, checkRecord, names, named, checkNamed, wrongRoot, checkHeaderOf, checkRecords, checkNames, checkDiagram, check}
 use Rattle.division.specs.Span.{size, start, within, inPart}
 use Rattle.tables.specs.Table.{acceptedWith, isTable}
 use Rattle.parts.specs.Operations.{partWriting}
@@ -16,15 +16,15 @@ use Rattle.samples.specs.Samples.{table, A, A₀, A₁, sheet}
 use Rattle.samples.proofs.PartSamples.{sheet-short, index-high, part-is, out-short}
 
 pub A-accepted : Accepts A 3 3
-unfolding table A beAt wordAt bytesOf highField middleField lowField settings nodes root height thenEdge elseEdge misled checkRecord names named checkNamed checkHeader checkRecords checkNames checkDiagram check andThen each someBelow
+unfolding table A beAt wordAt bytesOf highField middleField lowField settings nodes root height thenEdge elseEdge misled checkRecord names named checkNamed wrongRoot checkHeaderOf checkRecords checkNames checkDiagram check andThen each someBelow
 A-accepted = refl
 
 A₀-is : isTable 3 (inPart 2 0 3 (permitted (wordAt A))) A₀ ≡ true
-unfolding table A A₀ beAt wordAt bytesOf highField middleField lowField settings nodes root height thenEdge elseEdge misled checkRecord names named checkNamed checkHeader checkRecords checkNames checkDiagram check andThen each someBelow bit branch flip holds plain under permitted indicator countBelow size start within inPart acceptedWith isTable xor
+unfolding table A A₀ beAt wordAt bytesOf highField middleField lowField settings nodes root height thenEdge elseEdge misled checkRecord names named checkNamed wrongRoot checkHeaderOf checkRecords checkNames checkDiagram check andThen each someBelow bit branch flip holds plain under permitted indicator countBelow size start within inPart acceptedWith isTable xor
 A₀-is = refl
 
 A₁-is : isTable 3 (inPart 2 1 3 (permitted (wordAt A))) A₁ ≡ true
-unfolding table A A₁ beAt wordAt bytesOf highField middleField lowField settings nodes root height thenEdge elseEdge misled checkRecord names named checkNamed checkHeader checkRecords checkNames checkDiagram check andThen each someBelow bit branch flip holds plain under permitted indicator countBelow size start within inPart acceptedWith isTable xor
+unfolding table A A₁ beAt wordAt bytesOf highField middleField lowField settings nodes root height thenEdge elseEdge misled checkRecord names named checkNamed wrongRoot checkHeaderOf checkRecords checkNames checkDiagram check andThen each someBelow bit branch flip holds plain under permitted indicator countBelow size start within inPart acceptedWith isTable xor
 A₁-is = refl
 
 -- with m places and b bytes lent

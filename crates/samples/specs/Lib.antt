@@ -6,3 +6,4 @@ pub mod Sheets
 pub mod Settings
 pub mod EdgeFirst
 pub mod Exclusion
+pub mod Loose

@@ -26,6 +26,16 @@ const A: [u64; 4] = [
     0x0C00000080000000,
 ];
 
+// A loose form of A, as bytes. The root edge is flagged and leads to record 1, whose then-edge is flagged. Records 1 and 3 have forward edges, 4 is unused, 5 is 2 again, 6 has equal edges.
+const LOOSE: [u8; 56] = *b"\
+    \x0C\x00\x00\x00\xC0\x00\x00\x03\
+    \x0C\x00\x00\x00\xE0\x00\x00\x0D\
+    \x04\x00\x00\x00\x00\x00\x00\x01\
+    \x08\x00\x00\x01\x40\x00\x00\x05\
+    \x08\x00\x00\x00\x80\x00\x00\x01\
+    \x04\x00\x00\x00\x00\x00\x00\x01\
+    \x08\x00\x00\x00\x00\x00\x00\x00";
+
 // Places 0 to N of the sheet, which has four.
 fn say_places(sheet: &[u8; 32], nodes: usize) {
     say(b" places");
@@ -370,6 +380,25 @@ fn combined(name: &[u8], op: Operation, other: &[u8], lent: usize) {
     say(b"\n");
 }
 
+// What a loose table comes to, with so many bytes of sheet, 4480 at most, and of out memory, 32 at most.
+fn made_proper(name: &[u8], table: &[u8], lent: usize, room: usize) {
+    say(name);
+    say(b" made proper:");
+    let mut memory = [0u8; 4480];
+    let mut space = [0u8; 32];
+    let sheet = tables::front(&mut memory, lent);
+    let out = tables::front(&mut space, room);
+    let written = tightening::make_proper(table, &mut sheet[..], &mut out[..]);
+    match written {
+        Written::Bytes(m) => {
+            let made = tables::front(&mut out[..], m);
+            say_words(&made[..]);
+        }
+        Written::Refused(r) => say_refusal(b" ", r),
+    }
+    say(b"\n");
+}
+
 fn numbers() {
     rank_of(7);
     rank_of(5);
@@ -454,6 +483,23 @@ fn with_other_settings() {
     combined(b"A with 15 bytes", Operation::Shared, &two[0..15], 320);
 }
 
+fn loose_tables() {
+    let a = bytes_of(&A);
+    made_proper(b"A", &a, 4288, 32);
+    say(b"loose A:");
+    say_words(&LOOSE);
+    say(b"\n");
+    made_proper(b"loose A", &LOOSE, 4480, 32);
+    made_proper(b"loose A, 559 places,", &LOOSE, 4472, 32);
+    made_proper(b"loose A, 31 bytes,", &LOOSE, 4480, 31);
+    let root = bytes_of(&[0x0C00000060000008, A[1], A[2], A[3]]);
+    made_proper(b"A with root 8", &root, 4288, 32);
+    let above = bytes_of(&[A[0], 0x0400000000000008, A[2], A[3]]);
+    made_proper(b"A with record 1 as 0400000000000008", &above, 4288, 32);
+    let high = bytes_of(&[A[0], A[1], 0x08000000C0000003, A[3]]);
+    made_proper(b"A with record 2 as 08000000C0000003", &high, 4288, 32);
+}
+
 fn main() {
     refused_tables();
     accepted_tables();
@@ -467,4 +513,5 @@ fn main() {
     with_the_others();
     with_the_odd_ones();
     with_other_settings();
+    loose_tables();
 }

@@ -12,10 +12,10 @@ use Rattle.words.proofs.Cases.{passed}
 use Rattle.words.proofs.Bytes.{Bytes}
 use Rattle.diagram.specs.Answer.{Answer, value, refusal}
 use Rattle.diagram.proofs.AnswerLaws.{refused-not, value-inj}
-use Rattle.tables.specs.Table.{tableOf}
+use Rattle.tables.specs.Table.{nodeCount, tableOf}
 use Rattle.tables.specs.Writing.{fitted, lengthOf, outAfter}
 use Rattle.tables.proofs.TableFor.{TableFor}
-use Rattle.tables.proofs.TableLaws.{tableOf-is, tableOf-some}
+use Rattle.tables.proofs.TableLaws.{nodeCount-is, nodeCount-some, tableOf-is, tableOf-some}
 use Rattle.tables.specs.Inner.{Writes}
 
 module _ (n : ℕ) (P : ℕ → Bool) (out : List ℕ) where
@@ -46,6 +46,12 @@ same-table n P Q same = go (tableOf n P) refl (tableOf n Q) refl
 -- so they are written alike
 pub writes-same : (n : ℕ) (P Q : ℕ → Bool) → ((x : ℕ) → x < 2 ^ n → P x ≡ Q x) → {out out′ : List ℕ} {answer : Answer ℕ} → Writes n P out answer out′ → Writes n Q out answer out′
 writes-same n P Q same w = let e = same-table n P Q same in record { answers = rw (← e) (w .answers); leaves = rw (← e) (w .leaves) }
+
+-- and their table has the same node count
+pub same-count : (n : ℕ) (P Q : ℕ → Bool) → ((x : ℕ) → x < 2 ^ n → P x ≡ Q x) → (N : ℕ) → nodeCount n P ≡ some N → nodeCount n Q ≡ some N
+same-count n P Q same N e =
+    let t = nodeCount-some n P N e in
+    nodeCount-is n Q (t .0) N (t .1) (record { accepts = t .2 .accepts; permits = λ x l. t .2 .permits x l ∙ same x l })
 
 -- what is fitted into the room is what there was
 pub fitted-some : (room : ℕ) (o : Option (List ℕ)) (bytes : List ℕ) → fitted room o ≡ value bytes → o ≡ some bytes

@@ -21,10 +21,10 @@ use Rattle.diagram.proofs.Paths.{under-never}
 use Rattle.diagram.proofs.Accept.{accepted-accepts}
 use Rattle.diagram.proofs.Agree.{agree-under, proper-agree}
 use Rattle.diagram.proofs.Fields.{record-high, record-middle, record-low}
-use Rattle.tables.specs.Table.{tableOf}
+use Rattle.tables.specs.Table.{nodeCount, tableOf}
 use Rattle.tables.specs.Writing.{fitted, outAfter, frontOf}
 use Rattle.tables.proofs.TableFor.{TableFor}
-use Rattle.tables.proofs.TableLaws.{tableOf-is, tableOf-none}
+use Rattle.tables.proofs.TableLaws.{nodeCount-is, tableOf-is, tableOf-none}
 
 -- a proper diagram of the set, of c nodes, with root edge `top`
 module _ (n : ℕ) (P : ℕ → Bool) (L : Words) (c top : ℕ) (proper : Proper L n c) (root-node : top / 2 ≡ c) (means : (x : ℕ) → x < 2 ^ n → under L top x ≡ P x) where
@@ -85,14 +85,26 @@ module _ (n : ℕ) (P : ℕ → Bool) (L : Words) (c top : ℕ) (proper : Proper
       all-fit zero l = omega arith
       all-fit (suc i) l = omega (arith, proper .reduced .ordered .low i (omega arith))
 
+      -- their bytes
+      made : List ℕ
+      made = wordsBytes all (c + 1)
+
+      made-for : TableFor n P made c
+      unfolding all made
+      made-for =
+          let m = c + 1 in
+          is-for made (bytes-words all m) (length-wordsBytes all m) (word-of-run all m 0 (omega arith) (all-fit 0 (omega arith)))
+          (λ i q. word-of-run all m (suc i) (omega arith) (all-fit (suc i) (omega arith)))
+
+      -- so the diagram's node count is the table's
+      pub count-is : nodeCount n P ≡ some c
+      unfolding made
+      count-is = nodeCount-is n P made c (bytes-words all (c + 1)) made-for
+
       -- less memory than it takes
       pub answer-11 : (room : ℕ) → room < 8 * (c + 1) → fitted room (tableOf n P) ≡ refusal 11 0
-      unfolding fitted all
-      answer-11 room l =
-          let m = c + 1 in
-          let t = records-table (wordsBytes all m) (bytes-words all m) (length-wordsBytes all m) (word-of-run all m 0 (omega arith) (all-fit 0 (omega arith)))
-          (λ i q. word-of-run all m (suc i) (omega arith) (all-fit (suc i) (omega arith))) in
-          rw (t, length-wordsBytes all m, lt-ltb room (8 * (c + 1)) l)
+      unfolding fitted made
+      answer-11 room l = rw (tableOf-is n P made c (bytes-words all (c + 1)) made-for, length-wordsBytes all (c + 1), lt-ltb room (8 * (c + 1)) l)
 
 -- a diagram of no nodes keeps all rules
 no-nodes : (w : Words) (n : ℕ) → Proper w n 0

@@ -3,11 +3,13 @@ ghost use mathlib.Core.Path.{_≡_};
 ghost use mathlib.Core.List.{[], _∷_};
 ghost use Rattle.rules.specs.Refusals.{numberOf, placeOf};
 ghost use Rattle.exclusion.specs.Answers.{foundAs};
+ghost use Rattle.tables.specs.Answers.{writtenAs};
 ghost use Rattle.combining.specs.Answers.{combinedAs};
-ghost use Rattle.telling.specs.Told.{foundWords, returned, told, toldOf};
+ghost use Rattle.telling.specs.Told.{single, foundWords, returned, told, toldOf};
 use combining::Combined;
 use exclusion::RuledOut;
 use rules::Refusal;
+use tables::Written;
 
 // Tells three words: 0 is returned.
 pub fn tell(a: u64, b: u64, c: u64, answer: &mut [u64; 3]) -> u64
@@ -34,6 +36,16 @@ pub fn tell_found(found: RuledOut, answer: &mut [u64; 3]) -> u64
         RuledOut::Empty => tell(1, 0, 0, answer),
         RuledOut::By(by) => tell(2, by.settings, by.given.0, answer),
         RuledOut::Refused(r) => tell_refusal(r, 0, answer),
+    }
+}
+
+// Tells what was written: how many bytes.
+pub fn tell_written(written: Written, answer: &mut [u64; 3]) -> u64
+    ensures { λ r. ⌜ (r ≡ returned (writtenAs written)) × (now (answer .exit) ≡ told single (writtenAs written)) ⌝ }
+{
+    match written {
+        Written::Bytes(m) => tell(m as u64, 0, 0, answer),
+        Written::Refused(r) => tell_refusal(r, 0, answer),
     }
 }
 

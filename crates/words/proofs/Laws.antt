@@ -78,6 +78,15 @@ over-over f g m m′ s l =
     ∙ drop-append-add p (drop (8 * m) s) (8 * m′ - 8 * m) ∙ drop-drop (8 * m′ - 8 * m) (8 * m) s ∙ ap (λ (n : ℕ). drop n s) (sym e) in
     ap (λ (r : List ℕ). wordsBytes f m′ ++ r) q
 
+-- a run of words over other bytes of the same length, or shorter
+pub over-front : (f : ℕ → ℕ) (m k : ℕ) (front s : List ℕ) → length front ≡ k → k ≤ 8 * m → wordsOver f m (front ++ drop k s) ≡ wordsOver f m s
+unfolding wordsOver
+over-front f m k front s e l =
+    let j = 8 * m - k in
+    let a : length front + j ≡ 8 * m = omega arith in
+    let b : k + j ≡ 8 * m = omega arith in
+    ap (wordsBytes f m ++_) (ap (λ (i : ℕ). drop i (front ++ drop k s)) (sym a) ∙ drop-append-add front (drop k s) j ∙ drop-drop j k s ∙ ap (λ (i : ℕ). drop i s) b)
+
 -- one more word of a run
 pub put-next : (f : ℕ → ℕ) (m : ℕ) (s : List ℕ) → 8 * m + 8 ≤ length s → putWord (wordsOver f m s) m (f m) ≡ wordsOver f (suc m) s
 unfolding putWord wordsOver wordsBytes

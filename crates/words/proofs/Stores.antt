@@ -5,8 +5,8 @@ use mathlib.Core.Bool.{cond}
 use mathlib.Core.List.{List, _++_, append-assoc}
 use native.Mathlib.Omega.{arith}
 use lib.Dec.{eqb}
-use lib.ListN.{length, getD, take, drop, length-append, length-drop, List·getD-append}
-use lib.Seq.{getD-append-add, length-take-le, getD-take, getD-drop}
+use lib.ListN.{length, getD, set, take, drop, length-append, length-drop, List·getD-append}
+use lib.Seq.{getD-append-add, length-take-le, getD-take, getD-drop, getD-set-other}
 use borrow.Author.Tests.{eq-eqb, ne-eqb}
 use Rattle.words.specs.Words.{beAt, wordAt, bytesOf, putWord}
 use Rattle.words.proofs.Cases.{less, same, more, tri}
@@ -72,6 +72,11 @@ module _ (s : List ℕ) (k v : ℕ) (long : 8 * k + 8 ≤ length s) where
   pub put-updated : v < 2 ^ 64 → Updated (wordAt s) (wordAt (putWord s k v)) k v
   put-updated l = record { here = word-same l; other = word-other }
 
+-- a word stays where a byte behind it is set
+pub word-set : (s : List ℕ) (i b k : ℕ) → 8 * k + 8 ≤ i → wordAt (set s i b) k ≡ wordAt s k
+unfolding wordAt
+word-set s i b k l = be-cong (set s i b) s (8 * k) 8 (λ j m n. getD-set-other s i j b 0 (λ e. omega arith))
+
 -- a store, by what it left
 module _ (s t : List ℕ) (k v : ℕ) (is : t ≡ putWord s k v) (long : 8 * k + 8 ≤ length s) where
   pub stored : v < 2 ^ 64 → Updated (wordAt s) (wordAt t) k v
@@ -79,3 +84,9 @@ module _ (s t : List ℕ) (k v : ℕ) (is : t ≡ putWord s k v) (long : 8 * k +
 
   pub stored-long : length t ≡ length s
   stored-long = ap length is ∙ length-put s k v long
+
+  -- a byte stays where it lies behind
+  pub stored-byte : (j : ℕ) → 8 * k + 8 ≤ j → getD t j 0 ≡ getD s j 0
+  stored-byte j l =
+      let e : 8 * k + 8 + (j - (8 * k + 8)) ≡ j = omega arith in
+      ap (λ (x : List ℕ). getD x j 0) is ∙ subst (λ (b : ℕ). getD (putWord s k v) b 0 ≡ getD s b 0) e (byte-high s k v long (j - (8 * k + 8)))

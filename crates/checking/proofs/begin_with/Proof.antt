@@ -1,6 +1,7 @@
 -- `checking::begin_with` meets its contract: the header, then the diagram, and zeros after 9. Assumes nothing.
 use Prim.Native.Nat.{_+_, _*_, _/_, _≤_}
 use mathlib.Core.Path.{refl}
+use mathlib.Core.Bool.{false}
 use native.Mathlib.Omega.{arith}
 use lib.ListN.{length}
 use borrow.Author.Needs.{needs}
@@ -17,7 +18,7 @@ returns c = let r = header-refused _ _ _ _ (c .before .before .before .check-hea
 abbrev entry : tie.After-enum-told → tie.Start
 entry c = c .before .before .before .before .before
 
-passed : (c : tie.After-enum-told) → let a = entry c .args in Headed (a .table .now) (length (a .sheet .now) / 8) (λ N. a .each * N + a .more)
+passed : (c : tie.After-enum-told) → let a = entry c .args in Headed false (a .table .now) (length (a .sheet .now) / 8) (λ N. a .each * N + a .more)
 passed c = let a = entry c .args in header-holds _ (a .table .now) (a .sheet .now) _ (c .before .before .check-header .ensures) (c .enum-told .given .1)
 
 header-of-requires : tie.Need-header-of-requires

@@ -23,8 +23,8 @@ ready-all-requires c κs =
     let A = subst (Outcome _ _) (found .found .given .1) (e .1) in
     (omega (arith, p .2, e .0), A .few, A .inside)
 
-write-top-requires : tie.Need-write-top-requires
-write-top-requires c κs =
+write-root-requires : tie.Need-write-root-requires
+write-root-requires c κs =
     let ready-all = c .before .before .before .before in
     let found = ready-all .before .before .before in
     let explore = found .before .before .before .before in
@@ -36,8 +36,8 @@ write-top-requires c κs =
 
 returns-2 : tie.Need-returns-2
 returns-2 c =
-    let write-top = c .before .before .before .before in
-    let ready-all = write-top .before .before .before .before .before in
+    let write-root = c .before .before .before .before in
+    let ready-all = write-root .before .before .before .before .before in
     let found = ready-all .before .before .before in
     let explore = found .before .before .before .before in
     let p = explore .before .before .before .before .before .before .pre in
@@ -45,9 +45,9 @@ returns-2 c =
     let A = subst (Outcome _ _) (found .found .given .1) (e .1) in
     let r = ready-all .ready-all .ensures in
     pairs-fit _ _ _ _ _ _ _ _ (omega (arith, A .counted, A .few)) _ _
-    (writes-same _ _ _ (λ x l. first-means _ _ _ _ _ _ _ _ _ _ A (r .0) (omega (arith, p .1 .few)) x) (write-top .write-top .ensures _ (pairs-mean _ _ _ _ _ _ _ _ _ _ A (r .0))))
+    (writes-same _ _ _ (λ x l. first-means _ _ _ _ _ _ _ _ _ _ A (r .0) (omega (arith, p .1 .few)) x) (write-root .write-root .ensures .writes _ (pairs-mean _ _ _ _ _ _ _ _ _ _ A (r .0))))
 
 pub combine-roots-spec : {M : Type 1} → statement M
 combine-roots-spec =
     tie.close
-    (tie.spec (λ c κs. search needs) (λ c. search needs) (λ c. search needs) (λ c. search needs) returns ready-all-requires write-top-requires (λ c. search needs) (λ c. search needs) returns-2)
+    (tie.spec (λ c κs. search needs) (λ c. search needs) (λ c. search needs) (λ c. search needs) returns ready-all-requires write-root-requires (λ c. search needs) (λ c. search needs) returns-2)

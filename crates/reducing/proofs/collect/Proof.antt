@@ -7,16 +7,16 @@ use lib.ListN.{length}
 use borrow.Author.Needs.{needs}
 use Rattle.words.specs.Words.{wordAt}
 use Rattle.reducing.specs.Steps.{Collects}
-use Rattle.reducing.proofs.Collecting.{collected-first, turn-inside, turn-room, turn-leads, collect-falls, collected-turn}
+use Rattle.reducing.proofs.Collecting.{collected-first, turn-inside, turn-room, turn-low, turn-leads, collect-falls, collected-turn}
 use Rattle.reducing.proofs.collect.Statement.{statement}
 use Rattle.reducing.proofs.collect.Tie as tie
 
 abbrev Inv-loop : tie.InvT-loop
-Inv-loop sheet₀ p c h first end₀ next₀ sheet end next =
-    (length sheet ≡ length sheet₀) × Collects (wordAt sheet₀) (wordAt sheet) p c h first end next
+Inv-loop sheet₀ few p c h first end₀ next₀ sheet end next =
+    (length sheet ≡ length sheet₀) × Collects few (wordAt sheet₀) (wordAt sheet) p c h first end next
 
 abbrev μ-loop : tie.MeasureT-loop
-μ-loop sheet₀ p c h first end₀ next₀ sheet end next = next
+μ-loop sheet₀ few p c h first end₀ next₀ sheet end next = next
 
 loop-holds : tie.Need-loop-holds Inv-loop μ-loop
 loop-holds c = (refl, λ D R. collected-first D _ _ _ _ _ R)
@@ -35,6 +35,7 @@ renew-requires c κs =
       turn-room D _ _ _ _ _ R _ _ _ K t,
       R .low,
       turn-leads D _ _ _ _ _ R _ _ _ K t,
+      turn-low D _ _ _ _ _ R _ _ _ K t,
     )
 
 -- from what `renew` left: the turn

@@ -48,17 +48,17 @@ then-small c = rw (then-is c) (through-small _ _ (entry c .pre .4 true .1))
 else-small : (c : tie.After-through-of2) → c .through-of2 .result .value < 131072
 else-small c = rw (else-is c) (through-small _ _ (entry c .pre .4 false .1))
 
-normal-word-requires : tie.Need-normal-word-requires
-normal-word-requires c κs =
+word-of-requires : tie.Need-word-of-requires
+word-of-requires c κs =
     let f = c .before .before .before .before .before .before .before .before .before in
-    (entry f .pre .3, omega (arith, then-small f), omega (arith, else-small f))
+    (entry f .pre .3, then-small f, else-small f, entry f .pre .5)
 
 -- the length stays
 long : (c : tie.After-put-word3) → length (c .put-word3 .last .0) ≡ length (entry (edges-of c) .args .sheet .now)
 long c =
     let f = edges-of c in
     let p = entry f .pre in
-    renewed-long _ _ _ _ _ _ _ _ _ _ _ (p .0) (p .1) (p .2) (then-is f) (else-is f) (c .before .normal-word .ensures) (put1-of c .put-word .ensures) (put2-of c .put-word2 .ensures)
+    renewed-long (entry f .args .few) _ _ _ _ _ (entry f .args .i) _ _ _ _ _ (p .0) (p .1) (p .2) (then-is f) (else-is f) (c .before .word-of .ensures) (put1-of c .put-word .ensures) (put2-of c .put-word2 .ensures)
     (c .put-word3 .ensures)
 
 returns : tie.Need-returns
@@ -68,18 +68,18 @@ returns c =
     let p = entry f .pre in
     let t = then-small f in
     let e = else-small f in
-    let z = put3 .before .normal-word .ensures in
-    let fits : put3 .before .normal-word .result < 2 ^ 64 = search needs in
+    let z = put3 .before .word-of .ensures in
+    let fits : put3 .before .word-of .result < 2 ^ 64 = search needs in
     let u = put1-of put3 .put-word .ensures in
     let v = put2-of put3 .put-word2 .ensures in
     let w = put3 .put-word3 .ensures in (
       long put3,
-      renewed _ _ _ _ _ _ _ _ _ _ _ (p .0) (p .1) (p .2) (then-is f) (else-is f) z u v w (omega arith) (omega arith) fits,
-      renewed-differ _ _ _ _ _ _ _ _ _ _ _ (p .0) (p .1) (p .2) (then-is f) (else-is f) z u v w (omega arith) (omega arith) fits,
+      renewed (entry f .args .few) _ _ _ _ _ _ _ _ _ _ _ (p .0) (p .1) (p .2) (then-is f) (else-is f) z u v w (omega arith) (omega arith) fits,
+      renewed-differ (entry f .args .few) _ _ _ _ _ _ _ _ _ _ _ (p .0) (p .1) (p .2) (then-is f) (else-is f) z u v w (omega arith) (omega arith) fits,
     )
 
 pub renew-spec : {M : Type 1} → statement M
 renew-spec =
     tie.close
     (tie.spec (λ c. search needs) (λ c. search needs) (λ c. search needs) (λ c κs. search needs) through-of-requires (λ c κs. search needs) through-of-requires-2
-    (λ c κs. search needs) (λ c κs. search needs) normal-word-requires (λ c κs. search needs) (λ c. long (c .before .before .before .before)) returns)
+    (λ c κs. search needs) (λ c κs. search needs) word-of-requires (λ c κs. search needs) (λ c. long (c .before .before .before .before)) returns)

@@ -6,9 +6,10 @@ use lib.ListN.{length}
 use borrow.Author.Needs.{needs}
 use Rattle.words.specs.Words.{wordAt}
 use Rattle.diagram.specs.Answer.{pass, each}
-use Rattle.diagram.specs.Rules.{checkRecords}
+use Rattle.diagram.specs.Rules.{checkRecord, checkRecords}
 use Rattle.records.specs.Inner.{Marked}
-use Rattle.records.proofs.Turns.{turn-refused, turn-passed, names-lower}
+use Rattle.rules.proofs.Turns.{turn-refused, turn-passed}
+use Rattle.records.proofs.Turns.{names-lower}
 use Rattle.records.proofs.Marks.{marks-next}
 use Rattle.records.proofs.pass.check_records.Statement.{statement}
 use Rattle.records.proofs.pass.check_records.Tie as tie
@@ -27,11 +28,12 @@ check-record-requires : tie.Need-check-record-requires Inv-loop μ-loop
 check-record-requires c κs = (omega arith, omega arith, c .word-at .ensures, c .before .word-before .ensures)
 
 returns : tie.Need-returns Inv-loop μ-loop
+unfolding checkRecords
 returns c =
     let check-record = c .before .before in
     let turn = check-record .before .before .before in
     let i = turn .before .loop .inv in
-    let t = turn-refused _ _ _ _ (i .1) (check-record .check-record .ensures) _ _ (turn .loop-test .taken) (c .enum-told2 .given .1) in
+    let t = turn-refused (checkRecord _ _) _ _ (i .1) (check-record .check-record .ensures) _ _ (turn .loop-test .taken) (c .enum-told2 .given .1) in
     (t .0, i .2, λ e. absurd (t .1 e))
 
 -- from the fields of a turn's record: its word, the loop's head, and the function's entry
@@ -47,11 +49,12 @@ entry c = head c .before .before .before
 -- the record passed, so each node that it names has a mark
 found : (c : tie.After-of Inv-loop μ-loop) → let r = c .of .result in let m = head c .loop .marks in
     (r .high .value / 2 < length m) × (r .low .value / 2 < length m) × (checkRecords (wordAt (entry c .args .table .now)) (entry c .args .n) (head c .loop .k + 1) ≡ pass)
+unfolding checkRecords
 found c =
     let p = entry c .pre in
     let i = head c .loop .inv in
     let l = word-of c .before .before .loop-test .taken in
-    let e = turn-passed _ _ _ _ (i .1) (c .before .before .before .before .check-record .ensures) (c .before .before .enum-told .given .1) in
+    let e = turn-passed (checkRecord _ _) _ _ (i .1) (c .before .before .before .before .check-record .ensures) (c .before .before .enum-told .given .1) in
     let n = names-lower _ _ _ _ _ _ _ e (word-of c .word-at .ensures) (c .of .ensures) in
     (omega arith, omega arith, e)
 

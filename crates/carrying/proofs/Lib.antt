@@ -1,0 +1,2 @@
+-- The laws of words that carry their nodes.
+pub mod Placing

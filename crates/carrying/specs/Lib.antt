@@ -1,0 +1,2 @@
+-- Words that carry their nodes.
+pub mod Words

@@ -1,0 +1,2 @@
+-- The nodes that a loose table leads to.
+pub mod Inner

@@ -1,0 +1,3 @@
+-- The laws of loose tables.
+pub mod Records
+pub mod Loosely

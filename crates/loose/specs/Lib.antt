@@ -1,0 +1,3 @@
+-- Loose tables.
+pub mod Rules
+pub mod Inner

@@ -1,0 +1,3 @@
+-- A loose table made proper.
+pub mod Operations
+pub mod Inner

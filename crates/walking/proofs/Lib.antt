@@ -1,0 +1,2 @@
+-- The laws of the way of a setup.
+pub mod Walking
