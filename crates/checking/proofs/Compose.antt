@@ -11,7 +11,7 @@ use Rattle.diagram.specs.Format.{nodes}
 use Rattle.diagram.specs.Answer.{Answer, value, refusal, andThen}
 use Rattle.diagram.specs.Rules.{checkHeaderOf, checkHeader, checkDiagram, check}
 use Rattle.diagram.specs.Reading.{IsHeader}
-use Rattle.diagram.proofs.Refusals.{header-refuses}
+use Rattle.diagram.proofs.Refusals.{early-low, header-refuses}
 use Rattle.diagram.proofs.Accept.{Headed, headed}
 use Rattle.rules.specs.declared.Refusal.{Refusal}
 use Rattle.rules.specs.declared.Verdict.{Verdict}
@@ -40,7 +40,7 @@ module _ (need : ℕ → ℕ) (t s : List ℕ) (v : Verdict) (v-is : verdictAs v
   header-refused r q =
       let e : checkHeader t (length s / 8) need ≡ refusal (numberOf r) (placeOf r) = sym v-is ∙ ap verdictAs q in
       let a : checkingFor need t s ≡ refusal (numberOf r) (placeOf r) = rw e in
-      (sym a, sheet-kept _ _ (checkingFor need t s) (numberOf r) (placeOf r) s a (header-refuses false t (length s / 8) need (numberOf r) (placeOf r) e .0))
+      (sym a, sheet-kept _ _ (checkingFor need t s) (numberOf r) (placeOf r) s a (early-low (header-refuses false t (length s / 8) need (numberOf r) (placeOf r) e) .0))
 
   -- what the header's rules give to those after them
   module _ (passed : v ≡ Passed) where

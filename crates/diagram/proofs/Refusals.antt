@@ -1,6 +1,7 @@
 -- Which refusals the rules can give: 1 to 10, 9 only from rule 9, 10 only where too few places are lent, and no place above N. Assumes nothing.
 use Prim.Native.Nat.{ℕ, zero, suc, _+_, _-_, _*_, _/_, _%_, _≤_, _<_}
 use mathlib.Core.Path.{_≡_, refl, sym, subst}
+use mathlib.Core.Logic.{_⊎_, inl, inr}
 use mathlib.Core.Bool.{Bool, true, false, not, cond, _&&_, _||_}
 use mathlib.Core.List.{List}
 use native.Mathlib.Omega.{arith}
@@ -42,9 +43,12 @@ unfolding each
 each-refuses Q f zero h = passes Q tt
 each-refuses Q f (suc m) h = then-refuses Q (each f m) (λ _. f m) (each-refuses Q f m (λ k l. h k (omega arith))) (λ _ e. h m (omega arith))
 
--- another number than 9, up to 10, at place 0
+-- 1 to 3, or 10, at place 0
 abbrev pub Early : ℕ → ℕ → Type 0
-Early number place = (number ≡ 9 → ⊥) × (place ≡ 0) × (number ≤ 10)
+Early number place = (((0 < number) × (number ≤ 3)) ⊎ (number ≡ 10)) × (place ≡ 0)
+
+pub early-low : {number place : ℕ} → Early number place → (number ≡ 9 → ⊥) × (number ≤ 10)
+early-low h = elim (h .0) [ inl a ↦ (λ i. omega arith, omega arith) | inr a ↦ (λ i. omega arith, omega arith) ]
 
 -- a number below 9, at a place up to N
 abbrev pub Records : ℕ → ℕ → ℕ → Type 0
@@ -58,11 +62,11 @@ pub header-refuses : (loose : Bool) (bytes : List ℕ) (lent : ℕ) (need : ℕ 
 unfolding checkHeaderOf
 header-refuses loose bytes lent need =
     let w = wordAt bytes in
-    unless Early (ltb (length bytes) 8) 1 0 (λ e. omega arith, refl, omega arith)
-    (unless Early (ltb 65535 (nodes w)) 2 0 (λ e. omega arith, refl, omega arith)
-    (unless Early (not (eqb (length bytes) (8 * (nodes w + 1)))) 1 0 (λ e. omega arith, refl, omega arith)
-    (unless Early (wrongRoot loose (root w / 2) (nodes w)) 3 0 (λ e. omega arith, refl, omega arith)
-    (unless Early (ltb lent (need (nodes w))) 10 0 (λ e. omega arith, refl, omega arith)
+    unless Early (ltb (length bytes) 8) 1 0 (inl (omega arith, omega arith), refl)
+    (unless Early (ltb 65535 (nodes w)) 2 0 (inl (omega arith, omega arith), refl)
+    (unless Early (not (eqb (length bytes) (8 * (nodes w + 1)))) 1 0 (inl (omega arith, omega arith), refl)
+    (unless Early (wrongRoot loose (root w / 2) (nodes w)) 3 0 (inl (omega arith, omega arith), refl)
+    (unless Early (ltb lent (need (nodes w))) 10 0 (inr refl, refl)
     (passes Early tt)))))
 
 pub records-refuse : (w : Words) (n N : ℕ) → Refuses (Records N) (checkRecords w n N)
@@ -92,7 +96,7 @@ pub check-refuses : (bytes : List ℕ) (lent : ℕ) (need : ℕ → ℕ) → Ref
 unfolding check checkDiagram
 check-refuses bytes lent need =
     let w = wordAt bytes in
-    then-refuses Own (checkHeader bytes lent need) _ (λ r p e. let h = header-refuses false bytes lent need r p e in (omega arith, h .2)) λ _ ok.
+    then-refuses Own (checkHeader bytes lent need) _ (λ r p e. let h = header-refuses false bytes lent need r p e in (omega arith, early-low h .1)) λ _ ok.
     then-refuses Own (checkDiagram w (settings w) (nodes w)) _
     (then-refuses Own (checkRecords w (settings w) (nodes w)) _ (λ r p e. let h = records-refuse w (settings w) (nodes w) r p e in (omega (arith, headed false bytes lent need ok .few), omega arith))
     λ _ _ r p e. let h = names-refuse w (nodes w) r p e in (omega (arith, headed false bytes lent need ok .few), omega arith))
@@ -105,7 +109,7 @@ nine-headed bytes lent need place e = go (checkHeader bytes lent need) refl _ e
   where
     go : (a : Answer (Unit {0})) → checkHeader bytes lent need ≡ a → (g : Unit {0} → Answer (ℕ × ℕ)) → andThen a g ≡ refusal 9 place → checkHeader bytes lent need ≡ pass
     go (value v) q g e = q
-    go (refusal r p) q g e = let i : r ≡ 9 = cc in absurd (header-refuses false bytes lent need r p q .0 i)
+    go (refusal r p) q g e = let i : r ≡ 9 = cc in absurd (early-low (header-refuses false bytes lent need r p q) .0 i)
 
 -- ... and after the records' rules
 pub nine-records : (bytes : List ℕ) (lent : ℕ) (need : ℕ → ℕ) (place : ℕ) → check bytes lent need ≡ refusal 9 place → let w = wordAt bytes in checkRecords w (settings w) (nodes w) ≡ pass

@@ -3,6 +3,7 @@ use Prim.Native.Nat.{ℕ, suc, _/_, _≤_, _<_}
 use mathlib.Core.Path.{_≡_, refl}
 use mathlib.Core.Logic.{_⊎_, inl, inr}
 use mathlib.Core.Bool.{false, _||_}
+use native.Mathlib.Omega.{arith}
 use lib.Dec.{eqb, ltb, leb}
 use borrow.Author.Tests.{ltb-false, leb-false, le-ltb, lt-leb}
 use Rattle.words.proofs.Cases.{or-false, join-false, passed}
@@ -58,14 +59,14 @@ passes-loose w n N e =
 
 -- records that do not pass are refused by 4 or 6, at one of them
 abbrev pub FourOrSix : ℕ → ℕ → ℕ → Type 0
-FourOrSix N number place = ((number ≡ 4) ⊎ (number ≡ 6)) × (place ≤ N)
+FourOrSix N number place = ((number ≡ 4) ⊎ (number ≡ 6)) × (0 < place) × (place ≤ N)
 
 pub records-refuse : (w : Words) (n N : ℕ) → Refuses (FourOrSix N) (checkLooseRecords w n N)
 unfolding checkLooseRecords checkLooseRecord
 records-refuse w n N = each-refuses (FourOrSix N) (λ k. checkLooseRecord w n N (suc k)) N λ i l.
     let k = suc i in
     let h = height w k in
-    unless (FourOrSix N) (eqb h 0 || ltb n h) 4 k (inl refl, l) (unless (FourOrSix N) (astray w N h (thenEdge w k) || astray w N h (elseEdge w k)) 6 k (inr refl, l) (passes (FourOrSix N) tt))
+    unless (FourOrSix N) (eqb h 0 || ltb n h) 4 k (inl refl, omega arith, l) (unless (FourOrSix N) (astray w N h (thenEdge w k) || astray w N h (elseEdge w k)) 6 k (inr refl, omega arith, l) (passes (FourOrSix N) tt))
 
 -- the other way
 pub loose-passes : (w : Words) (n N : ℕ) → LooseRecords w n N → checkLooseRecords w n N ≡ pass

@@ -15,7 +15,7 @@ use Rattle.diagram.specs.Rules.{checkHeaderOf}
 use Rattle.diagram.specs.Ordered.{Accepted}
 use Rattle.diagram.specs.Reading.{IsHeader}
 use Rattle.diagram.proofs.AnswerLaws.{refused-not, value-inj}
-use Rattle.diagram.proofs.Refusals.{header-refuses}
+use Rattle.diagram.proofs.Refusals.{early-low, header-refuses}
 use Rattle.diagram.proofs.Accept.{Headed, headed, some-root}
 use Rattle.rules.specs.declared.Refusal.{Refusal}
 use Rattle.rules.specs.declared.Verdict.{Verdict}
@@ -62,7 +62,7 @@ module _ (t s out : List ℕ) where
     unfolding checkingLoose checkLoose andThen
     header-refused r q =
         let e : checkHeaderOf true t (length s / 8) needed ≡ refusal (numberOf r) (placeOf r) = sym v-is ∙ ap verdictAs q in
-        own-refused (numberOf r) (placeOf r) (rw e) (header-refuses true t (length s / 8) needed (numberOf r) (placeOf r) e .0)
+        own-refused (numberOf r) (placeOf r) (rw e) (early-low (header-refuses true t (length s / 8) needed (numberOf r) (placeOf r) e) .0)
 
     header-passed : v ≡ Passed → checkHeaderOf true t (length s / 8) needed ≡ pass
     header-passed passed = sym v-is ∙ ap verdictAs passed

@@ -17,9 +17,9 @@ use Rattle.diagram.specs.Answer.{Answer, value, refusal, andThen}
 use Rattle.diagram.specs.Rules.{checkHeaderOf, Accepts}
 use Rattle.diagram.proofs.AnswerLaws.{refused-not, value-inj, then-some}
 use Rattle.diagram.proofs.Accept.{accepts-accepted}
-use Rattle.diagram.proofs.Refusals.{Refuses, then-refuses, passes, header-refuses}
+use Rattle.diagram.proofs.Refusals.{Refuses, then-refuses, passes, Early, early-low, header-refuses}
 use Rattle.loose.specs.Rules.{checkLooseRecords, checkLoose, IsLoose}
-use Rattle.loose.proofs.Records.{records-refuse}
+use Rattle.loose.proofs.Records.{FourOrSix, records-refuse}
 use Rattle.loose.proofs.Loosely.{check-loosely, loosely-lent, accepted-loosely}
 use Rattle.checking.specs.Operations.{sheetBy}
 use Rattle.tables.specs.Table.{tableOf}
@@ -74,18 +74,22 @@ pub proper-back : (t s : List ℕ) (room n N : ℕ) → Bytes t → Accepts t n 
 unfolding fitted
 proper-back t s room n N b a = loose-served t s room n N (accepts-loose t n N a) ∙ rw (accepted-table t n N b (accepts-accepted t n N a))
 
--- the refusals of the loose table's own rules: those of the header, at place 0, and 4 and 6
-abbrev pub Own : ℕ → ℕ → Type 0
-Own number place = (((number ≡ 9 → ⊥) × (place ≡ 0)) ⊎ ((number ≡ 4) ⊎ (number ≡ 6))) × (number ≤ 10)
+-- the refusals of the loose table's own rules: 1 to 3 and 10, at place 0, and 4 and 6, at a record
+abbrev pub Own : ℕ → ℕ → ℕ → Type 0
+Own N number place = Early number place ⊎ FourOrSix N number place
 
-pub own-refusals : (t s : List ℕ) → Refuses Own (checkingLoose t s)
+pub own-refusals : (t s : List ℕ) → Refuses (Own (nodes (wordAt t))) (checkingLoose t s)
 unfolding checkingLoose checkLoose
 own-refusals t s =
     let w = wordAt t in
-    then-refuses Own (checkHeaderOf true t (length s / 8) needed) _ (λ r p e. let h = header-refuses true t (length s / 8) needed r p e in (inl (h .0, h .1), h .2)) λ _ _.
-    then-refuses Own (checkLooseRecords w (settings w) (nodes w)) _
-    (λ r p e. let h = records-refuse w (settings w) (nodes w) r p e .0 in (inr h, elim h [ inl a ↦ omega arith | inr a ↦ omega arith ])) λ _ _.
-    passes Own (settings w, nodes w)
+    let own = Own (nodes w) in
+    then-refuses own (checkHeaderOf true t (length s / 8) needed) _ (λ r p e. inl (header-refuses true t (length s / 8) needed r p e)) λ _ _.
+    then-refuses own (checkLooseRecords w (settings w) (nodes w)) _ (λ r p e. inr (records-refuse w (settings w) (nodes w) r p e)) λ _ _.
+    passes own (settings w, nodes w)
+
+own-low : {N number place : ℕ} → Own N number place → (number ≡ 9 → ⊥) × (number ≤ 10)
+own-low (inl h) = early-low h
+own-low (inr h) = elim (h .0) [ inl a ↦ (λ i. omega arith, omega arith) | inr a ↦ (λ i. omega arith, omega arith) ]
 
 -- of a call that keeps the promise
 module _ (t s out : List ℕ) (answer : Answer ℕ) (s′ out′ : List ℕ) (P : Promise t s out answer s′ out′) where
@@ -120,7 +124,7 @@ module _ (t s out : List ℕ) (answer : Answer ℕ) (s′ out′ : List ℕ) (P 
   -- 16 is never answered
   pub no-sixteen : (place : ℕ) → answer ≡ refusal 16 place → ⊥
   no-sixteen place e = elim answered [
-    | inl (number, at, own, is) ↦ let i : number ≡ 16 = cc in omega (arith, own-refusals t s number at own .1)
+    | inl (number, at, own, is) ↦ let i : number ≡ 16 = cc in omega (arith, own-low (own-refusals t s number at own) .1)
     | inr (bytes, there, long, is) ↦ go (ltb (length out) (length bytes)) (length bytes) (sym is ∙ e)
   ]
     where
@@ -147,7 +151,7 @@ module _ (t s out : List ℕ) (answer : Answer ℕ) (s′ out′ : List ℕ) (P 
 -- the sheet: a refusal of the loose table's own rules leaves it untouched
 pub sheet-untouched : (t s : List ℕ) (number place : ℕ) → checkingLoose t s ≡ refusal number place → sheetAfter t s ≡ s
 unfolding sheetAfter sheetBy
-sheet-untouched t s number place e = rw (e, ne-eqb number 9 (elim (own-refusals t s number place e .0) [ inl a ↦ a .0 | inr a ↦ λ z. elim a [ inl b ↦ omega arith | inr b ↦ omega arith ] ]))
+sheet-untouched t s number place e = rw (e, ne-eqb number 9 (own-low (own-refusals t s number place e) .0))
 
 -- after everything else the places that are needed are zero, and what lies past them is as before
 pub sheet-zero : (t s : List ℕ) (n N : ℕ) → checkingLoose t s ≡ value (n, N) → sheetAfter t s ≡ wordsOver (λ _. 0) (8 * N + 512) s
