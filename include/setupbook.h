@@ -25,6 +25,9 @@
  * node. Made proper it is the one table over the same settings that permits the same setups, of N'
  * nodes, at most N; a table is loose too, and is that table itself. All other calls take tables only.
  *
+ * Two tables with the same n permit the same setups exactly when their bytes are equal: there is no
+ * call to compare two, memcmp does.
+ *
  * A list is a row of numbers of 8 bytes, most significant byte first; up to seven spare bytes at
  * its end are ignored.
  *

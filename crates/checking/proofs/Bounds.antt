@@ -5,8 +5,8 @@ use mathlib.Core.Bool.{Bool}
 use mathlib.Core.List.{List}
 use native.Mathlib.Omega.{arith}
 use lib.Dec.{leb}
-use lib.ListN.{length, getD}
-use Rattle.words.specs.Words.{wordAt}
+use lib.ListN.{length}
+use Rattle.words.specs.Words.{Bytes, wordAt}
 use Rattle.words.proofs.Laws.{word-fits}
 use Rattle.diagram.specs.Format.{settings, highField}
 use Rattle.diagram.specs.Meaning.{permitted}
@@ -37,11 +37,11 @@ unfolding testing
 testing-place t x s = then-refuses Low (checking t s) _ (checking-place _ t s) (λ _ _. test-refuses Low (omega arith) x (settings (wordAt t)) (permitted (wordAt t)))
 
 -- a header's first field has six bits
-pub settings-fit : (t : List ℕ) → ((i : ℕ) → getD t i 0 < 256) → settings (wordAt t) ≤ 63
+pub settings-fit : (t : List ℕ) → Bytes t → settings (wordAt t) ≤ 63
 unfolding settings highField
 settings-fit t f = omega (arith, word-fits t 0 f)
 
-pub shape-fits : (t s : List ℕ) (n N : ℕ) → ((i : ℕ) → getD t i 0 < 256) → value (n, N) ≡ checking t s → (n ≤ 63) × (N ≤ 65535)
+pub shape-fits : (t s : List ℕ) (n N : ℕ) → Bytes t → value (n, N) ≡ checking t s → (n ≤ 63) × (N ≤ 65535)
 unfolding checkingFor
 shape-fits t s n N f e =
     let A = check-accepted t (length s / 8) (λ N. N + 1) n N (sym e) .0 in

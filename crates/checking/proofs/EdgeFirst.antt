@@ -16,7 +16,7 @@ use Rattle.diagram.specs.Rules.{misled, checkHeader, checkRecord, checkRecords,
 use Rattle.diagram.proofs.AnswerLaws.{refused-not, each-all, all-each, each-agree, each-refused}
 use Rattle.diagram.proofs.Accept.{fitting, fits, records-reduced}
 use Rattle.diagram.proofs.Fields.{word-below}
-use Rattle.diagram.proofs.Unique.{rising}
+use Rattle.diagram.proofs.Ascending.{rising}
 use Rattle.checking.specs.Operations.{checkingFor, sheetBy}
 use Rattle.checking.specs.EdgeFirst.{formerRecord, formerFor, BreaksBoth, Moves}
 

@@ -9,10 +9,9 @@ use native.Mathlib.Omega.{arith}
 use lib.Dec.{eqb, ltb}
 use lib.ListN.{length, drop}
 use borrow.Author.Tests.{eq-eqb, eqb-true, ltb-true, lt-ltb, le-ltb, not-false}
-use Rattle.words.specs.Words.{wordAt, wordsOver}
+use Rattle.words.specs.Words.{Bytes, wordAt, wordsOver}
 use Rattle.words.proofs.Cases.{passed}
 use Rattle.words.proofs.Laws.{words-read}
-use Rattle.words.proofs.Bytes.{Bytes}
 use Rattle.diagram.specs.Format.{settings, nodes, root}
 use Rattle.diagram.specs.Meaning.{permitted}
 use Rattle.diagram.specs.Answer.{Answer, value, refusal}
@@ -23,12 +22,12 @@ use Rattle.checking.specs.Operations.{checking, blank}
 use Rattle.checking.specs.Sheets.{HandedBack}
 use Rattle.checking.proofs.Lending.{filled-past}
 use Rattle.checking.proofs.Blank.{checking-back}
-use Rattle.tables.specs.Table.{tableOf}
-use Rattle.tables.specs.Writing.{fitted, lengthOf, outAfter, frontOf}
+use Rattle.tables.specs.Table.{isTable, tableOf}
+use Rattle.tables.specs.Writing.{fitted, frontOf, HandsOut}
 use Rattle.tables.proofs.TableFor.{TableFor}
 use Rattle.tables.proofs.TableLaws.{tableOf-some}
 use Rattle.tables.proofs.Writes.{fitted-some, fitted-refusal, sixteen}
-use Rattle.tables.proofs.WritingLaws.{front-written}
+use Rattle.tables.proofs.WritingLaws.{front-is, handed-out}
 use Rattle.pairing.specs.Pairs.{pairCount}
 use Rattle.pairing.proofs.Exploring.{none-held}
 use Rattle.naming.specs.declared.Operation.{Operation}
@@ -134,7 +133,7 @@ module _ (op : Operation) (t₁ s₁ t₂ s₂ pairs : List ℕ) (room : ℕ) (v
 
   -- with room, 16 exactly where no accepted table, of up to 65,535 records, permits what is named
   pub sixteen-exactly : number ≤ length pairs / 32
-      → (combining op t₁ s₁ t₂ s₂ pairs room .1 ≡ refusal 16 0) ↔ ((t : List ℕ) (N : ℕ) → Bytes t → TableFor same (combination op (permitted (wordAt t₁)) (permitted (wordAt t₂))) t N → ⊥)
+      → (combining op t₁ s₁ t₂ s₂ pairs room .1 ≡ refusal 16 0) ↔ ((t : List ℕ) → Bytes t → isTable same (combination op (permitted (wordAt t₁)) (permitted (wordAt t₂))) t ≡ true → ⊥)
   sixteen-exactly l =
       let e : combining op t₁ s₁ t₂ s₂ pairs room .1 ≡ fitted room (tableOf same (combination op (permitted (wordAt t₁)) (permitted (wordAt t₂)))) = answer-is ∙ rw (le-ltb (length pairs / 32) number l) in
       rw e (sixteen room same (combination op (permitted (wordAt t₁)) (permitted (wordAt t₂))))
@@ -174,5 +173,8 @@ module _ (op : Operation) (t₁ s₁ t₂ s₂ pairs out : List ℕ) (reply : Re
 
   -- the result is handed out as a part is: the front of so many bytes is the table
   pub result-front : (bytes : List ℕ) → answer ≡ value bytes → (reply .1 ≡ value (length bytes)) × (frontOf (length bytes) out′ ≡ bytes)
-  unfolding lengthOf
-  result-front bytes e = (Q .answers ∙ ap lengthOf e, ap (frontOf (length bytes)) (Q .writes ∙ ap (λ (a : Answer (List ℕ)). outAfter a out) e) ∙ front-written bytes out)
+  result-front = front-is answer out (reply .1) out′ (Q .answers) (Q .writes)
+
+  -- and nothing else is
+  pub handed-result : (bytes : List ℕ) → HandsOut (reply .1) out′ bytes → Result op t₁ s₁ t₂ s₂ pairs bytes
+  handed-result bytes h = result op t₁ s₁ t₂ s₂ pairs (length out) bytes (handed-out answer out (reply .1) out′ (Q .answers) (Q .writes) bytes h)

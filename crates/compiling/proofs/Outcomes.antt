@@ -7,8 +7,7 @@ use mathlib.Core.Option.{some}
 use native.Mathlib.Nat.{le-refl}
 use native.Mathlib.Omega.{arith}
 use lib.ListN.{length, drop}
-use Rattle.words.specs.Words.{wordAt}
-use Rattle.words.proofs.Bytes.{Bytes}
+use Rattle.words.specs.Words.{Bytes, wordAt}
 use Rattle.diagram.specs.Format.{Words}
 use Rattle.diagram.specs.Meaning.{flip, under}
 use Rattle.diagram.specs.Answer.{value, refusal}

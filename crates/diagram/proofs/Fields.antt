@@ -1,13 +1,21 @@
 -- The fields of a word, as the code reads them. Assumes nothing.
-use Prim.Native.Nat.{ℕ, zero, suc, _+_, _*_, _/_, _%_, _<_}
-use mathlib.Core.Path.{_≡_, refl, sym, ap, _∙_}
+use Prim.Native.Nat.{ℕ, zero, suc, _+_, _*_, _/_, _%_, _^_, _<_}
+use mathlib.Core.Path.{_≡_, refl, sym, ap, ap₂, _∙_}
 use mathlib.Core.List.{List}
 use native.Mathlib.Omega.{arith}
-use native.Mathlib.Nat.{add-zero}
+use native.Mathlib.Nat.{add-zero, div-div-eq-div-mul}
 use lib.ListN.{getD}
-use Rattle.words.specs.Words.{beAt, wordAt}
+use Rattle.words.specs.Words.{Bytes, beAt, wordAt}
 use Rattle.diagram.specs.Format.{Words, highField, middleField, lowField, settings, nodes, root, height, thenEdge, elseEdge}
 use Rattle.diagram.specs.Reading.{HasFields, IsHeader, IsRecord, recordOf}
+
+-- a word is its fields
+pub word-fields : (v : ℕ) → v ≡ highField v * 2 ^ 58 + middleField v * 2 ^ 29 + lowField v
+unfolding highField middleField lowField
+word-fields v = omega (arith, div-div-eq-div-mul v (2 ^ 29) (2 ^ 29))
+
+pub fields-inj : (a b : ℕ) → highField a ≡ highField b → middleField a ≡ middleField b → lowField a ≡ lowField b → a ≡ b
+fields-inj a b p q r = word-fields a ∙ ap₂ _+_ (ap₂ _+_ (ap (λ c. c * 2 ^ 58) p) (ap (λ c. c * 2 ^ 29) q)) r ∙ sym (word-fields b)
 
 -- a word of a smaller height is smaller
 pub word-below : (a b : ℕ) → highField a < highField b → a < b
@@ -74,7 +82,7 @@ rest-fits : (b c d e f g h : ℕ) → b < 256 → c < 256 → d < 256 → e < 25
     → b * 281474976710656 + c * 1099511627776 + d * 4294967296 + e * 16777216 + f * 65536 + g * 256 + h < 72057594037927936
 rest-fits b c d e f g h p q r s t u v = omega arith
 
-pub height-byte : (l : List ℕ) (k : ℕ) → 0 < k → ((i : ℕ) → getD l i 0 < 256) → getD l (8 * k) 0 / 4 ≡ height (wordAt l) k
+pub height-byte : (l : List ℕ) (k : ℕ) → 0 < k → Bytes l → getD l (8 * k) 0 / 4 ≡ height (wordAt l) k
 unfolding wordAt beAt highField
 height-byte l k p f =
     let at : ℕ → ℕ = λ i. getD l (8 * k + i) 0 in

@@ -9,6 +9,7 @@ pub mod Local
 pub mod Counts
 pub mod Edges
 pub mod Cofactor
+pub mod Ascending
 pub mod Unique
 pub mod Canonical
 pub mod AnswerLaws

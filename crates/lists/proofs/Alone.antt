@@ -5,10 +5,9 @@ use mathlib.Core.Bool.{Bool}
 use mathlib.Core.List.{List}
 use native.Mathlib.Omega.{arith}
 use native.Mathlib.Nat.{lt-of-lt-of-le}
-use lib.ListN.{getD}
 use lib.Dec.{ltb}
 use lib.Pow.{pow-mono}
-use Rattle.words.specs.Words.{wordAt}
+use Rattle.words.specs.Words.{Bytes, wordAt}
 use Rattle.words.proofs.Laws.{words-read}
 use Rattle.words.proofs.Cases.{passed}
 use Rattle.diagram.specs.Format.{settings}
@@ -45,7 +44,7 @@ served t ranks s room m e =
     let q : m ≡ items ranks = sym (value-inj (d .1)) in
     (a .0, a .1, q, λ i l. item-alone w n P i (each-all _ (items ranks) (d .0) i (omega arith)))
 
-module _ (t ranks s : List ℕ) (bytes : (i : ℕ) → getD t i 0 < 256) where
+module _ (t ranks s : List ℕ) (bytes : Bytes t) where
   -- where the list is served, item i + 1 is what unranking that number alone answers, with any sheet that serves
   pub served-alone : (setups : List ℕ) (m : ℕ) → unrankingList t ranks s (items setups) ≡ value m
       → (s′ : List ℕ) (v : ℕ × ℕ) → checking t s′ ≡ value v → (i : ℕ) → i < m

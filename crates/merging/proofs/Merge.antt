@@ -8,7 +8,7 @@ use Rattle.diagram.specs.Format.{Words, highField, middleField, lowField, heigh
 use Rattle.diagram.specs.Ordered.{Ordered}
 use Rattle.diagram.specs.Reading.{turn}
 use Rattle.diagram.proofs.Paths.{side, side-node}
-use Rattle.diagram.proofs.Unique.{ascending}
+use Rattle.diagram.proofs.Ascending.{ascending}
 use Rattle.numbering.specs.Renewal.{image, renew, StaysPlain}
 use Rattle.numbering.specs.Numbered.{Numbered, Keyed}
 use Rattle.numbering.proofs.Images.{normal-side, image-side, renew-node}

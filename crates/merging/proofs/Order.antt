@@ -4,7 +4,7 @@ use mathlib.Core.Path.{_≡_}
 use native.Mathlib.Omega.{arith}
 use Rattle.words.proofs.Cases.{less, same, more, tri}
 use Rattle.diagram.specs.Format.{highField, middleField, lowField}
-use Rattle.diagram.proofs.Unique.{word-fields}
+use Rattle.diagram.proofs.Fields.{word-fields}
 
 -- words x and y become x′ and y′, whose fields keep their order
 pub word-order : (x y x′ y′ : ℕ) → highField x′ ≡ highField x → highField y′ ≡ highField y

@@ -8,11 +8,9 @@ use native.Mathlib.Omega.{arith}
 use lib.Dec.{ltb}
 use lib.ListN.{length}
 use Rattle.words.specs.Words.{wordAt}
-use Rattle.words.proofs.Cases.{passed}
 use Rattle.diagram.specs.Format.{settings, nodes}
 use Rattle.diagram.specs.Meaning.{permitted}
 use Rattle.diagram.specs.Answer.{Answer, value, refusal}
-use Rattle.diagram.proofs.AnswerLaws.{refused-not, then-some}
 use Rattle.diagram.proofs.Refusals.{Refuses, refuses, passes, unless, then-refuses}
 use Rattle.diagram.proofs.Accept.{accepts-accepted}
 use Rattle.checking.specs.Operations.{checkingFor}
@@ -24,9 +22,9 @@ use Rattle.division.specs.Operations.{noPart}
 use Rattle.tables.specs.Table.{tableOf}
 use Rattle.tables.specs.Writing.{fitted, lengthOf}
 use Rattle.tables.proofs.TableLaws.{tableOf-some}
-use Rattle.tables.proofs.Writes.{fitted-some}
+use Rattle.tables.proofs.WritingLaws.{answer-value, answer-refusal}
 use Rattle.parts.specs.Operations.{needed, partOf, partWriting, partWritingFor, Promise}
-use Rattle.parts.proofs.Promised.{answer-value, answer-refusal}
+use Rattle.parts.proofs.Promised.{written-part}
 
 -- the refusals stay
 length-refuses : (Q : ℕ → ℕ → Type 0) (a : Answer (List ℕ)) → Refuses Q a → Refuses Q (lengthOf a)
@@ -61,13 +59,9 @@ part-back t k j s out answer s′ out′ K =
 
 -- a written part has at most 524,288 bytes
 pub bytes-fit : (t : List ℕ) (k j : ℕ) (s : List ℕ) (room m : ℕ) → lengthOf (partWriting t k j s room) ≡ value m → m ≤ 524288
-unfolding partWritingFor partOf
 bytes-fit t k j s room m e =
     let n = settings (wordAt t) in
-    let P = inPart k j n (permitted (wordAt t)) in
     let a = answer-value (partWriting t k j s room) m e in
-    let b = then-some (checkingFor needed t s) _ (a .1) .2 in
-    let c = passed (noPart k j) refused-not b in
-    let T = tableOf-some n P (a .0) (fitted-some room (tableOf n P) (a .0) (c .1)) in
+    let T = tableOf-some n _ (a .0) (written-part t k j s room (a .0) (a .1)) in
     let A = accepts-accepted (a .0) n (T .0) (T .2 .accepts) in
     omega (arith, a .2, A .long, A .few)

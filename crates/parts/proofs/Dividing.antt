@@ -23,7 +23,7 @@ use Rattle.tables.proofs.TableFor.{TableFor}
 use Rattle.tables.proofs.TableLaws.{tableOf-some}
 use Rattle.parts.specs.Calls.{Call, Kept, Wrote}
 use Rattle.parts.specs.Division.{Right, Division}
-use Rattle.parts.proofs.Promised.{refused-due, due-refused, front-table}
+use Rattle.parts.proofs.Promised.{refused-due, due-refused, handed-part}
 
 module _ (table : List ℕ) (n N k : ℕ) (ok : Accepts table n N) (parts : 0 < k) (few : k ≤ 65535) where
   abbrev P : ℕ → Bool
@@ -73,7 +73,7 @@ module _ (table : List ℕ) (n N k : ℕ) (ok : Accepts table n N) (parts : 0 < 
     wrote-table : (j : ℕ) (bytes : List ℕ) → Wrote calls j bytes → (j < k) × (tableOf n (inPart k j n P) ≡ some bytes)
     wrote-table j bytes o =
         let c = o .call in
-        rw (← (o .index-is), o .read) (front-table table n N k ok parts few c (kept c (o .listed)) (o .count) (o .answered))
+        rw (← (o .index-is)) (handed-part table n N k ok parts few c (kept c (o .listed)) bytes (o .handed))
 
     right : (j : ℕ) (bytes : List ℕ) → Wrote calls j bytes → Right table n k j bytes
     right j bytes o = let w = wrote-table j bytes o in part-right j bytes (w .0) (w .1)

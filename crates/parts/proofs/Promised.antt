@@ -1,6 +1,6 @@
 -- What a call that keeps part-write's promise comes to, on an accepted table. Assumes nothing.
 use Prim.Native.Nat.{ℕ, _/_, _≤_, _<_}
-use mathlib.Core.Path.{_≡_, refl, sym, ap, ap₂, _∙_}
+use mathlib.Core.Path.{_≡_, refl, sym, ap, _∙_}
 use mathlib.Core.Bool.{Bool, true, false, cond}
 use mathlib.Core.List.{List}
 use mathlib.Core.Option.{some}
@@ -10,19 +10,21 @@ use lib.ListN.{length}
 use borrow.Author.Tests.{leb-false}
 use Rattle.words.specs.Words.{wordAt}
 use Rattle.words.proofs.Cases.{passed}
+use Rattle.diagram.specs.Format.{settings}
 use Rattle.diagram.specs.Meaning.{permitted}
 use Rattle.diagram.specs.Answer.{Answer, value, refusal, andThen}
 use Rattle.diagram.specs.Rules.{Accepts}
 use Rattle.diagram.specs.Ordered.{Accepted}
-use Rattle.diagram.proofs.AnswerLaws.{refused-not, value-inj}
+use Rattle.diagram.proofs.AnswerLaws.{refused-not, then-some}
 use Rattle.diagram.proofs.Accept.{accepts-accepted, accepted-lent}
 use Rattle.checking.specs.Operations.{checkingFor}
 use Rattle.division.specs.Span.{inPart}
+use Rattle.division.specs.Operations.{noPart}
 use Rattle.division.proofs.Sharing.{none-index}
 use Rattle.tables.specs.Table.{tableOf}
-use Rattle.tables.specs.Writing.{lengthOf, outAfter, frontOf}
+use Rattle.tables.specs.Writing.{lengthOf, outAfter, HandsOut}
 use Rattle.tables.proofs.Writes.{fitted-some}
-use Rattle.tables.proofs.WritingLaws.{front-written}
+use Rattle.tables.proofs.WritingLaws.{answer-refusal, handed-out}
 use Rattle.parts.specs.Operations.{needed, partOf, partWriting, partWritingFor, Promise}
 use Rattle.parts.specs.Calls.{Call, Kept}
 use Rattle.parts.specs.Division.{due}
@@ -31,16 +33,11 @@ use Rattle.parts.specs.Division.{due}
 pub as-defined : {t : List ℕ} {k j : ℕ} {s out : List ℕ} {a : Answer ℕ} {s′ out′ : List ℕ} → Promise t k j s out a s′ out′ → Promise t k j s out (lengthOf (partWriting t k j s (length out))) s′ out′
 as-defined p = record { answers = refl; writes = p .writes; leaves = p .leaves }
 
--- an answer in bytes, taken apart
-pub answer-value : (a : Answer (List ℕ)) (m : ℕ) → lengthOf a ≡ value m → (bytes : List ℕ) × (a ≡ value bytes) × (length bytes ≡ m)
-unfolding lengthOf
-answer-value (value b) m e = (b, refl, value-inj e)
-answer-value (refusal r p) m e = absurd (refused-not e)
-
-pub answer-refusal : (a : Answer (List ℕ)) (number place : ℕ) → lengthOf a ≡ refusal number place → a ≡ refusal number place
-unfolding lengthOf
-answer-refusal (value b) number place e = absurd (refused-not (sym e))
-answer-refusal (refusal r p) number place e = let i : r ≡ number = cc in let j : p ≡ place = cc in rw (i, j)
+-- the bytes to write are the table of the part
+pub written-part : (t : List ℕ) (k j : ℕ) (s : List ℕ) (room : ℕ) (bytes : List ℕ) → partWriting t k j s room ≡ value bytes
+    → tableOf (settings (wordAt t)) (inPart k j (settings (wordAt t)) (permitted (wordAt t))) ≡ some bytes
+unfolding partWritingFor partOf
+written-part t k j s room bytes e = fitted-some room _ bytes (passed (noPart k j) refused-not (then-some (checkingFor needed t s) _ e .2) .1)
 
 module _ (table : List ℕ) (n N k : ℕ) (ok : Accepts table n N) (parts : 0 < k) (few : k ≤ 65535) where
   A : Accepted table n N
@@ -69,18 +66,11 @@ module _ (table : List ℕ) (n N k : ℕ) (ok : Accepts table n N) (parts : 0 < 
     unfolding lengthOf
     due-refused number place e = answer-is ∙ ap lengthOf e
 
-    -- an answer in bytes: the front of that many is what was due
-    front-due : (m : ℕ) → c .answer ≡ value m → due table n N k c ≡ value (frontOf m (c .out-after))
-    front-due m e =
-        let a = answer-value (due table n N k c) m (sym answer-is ∙ e) in
-        let o : c .out-after ≡ outAfter (value (a .0)) (c .out) = K .writes ∙ ap (λ b. outAfter b (c .out)) (due-is c ∙ a .1) in
-        a .1 ∙ ap value (sym (ap₂ frontOf (sym (a .2)) o ∙ front-written (a .0) (c .out)))
-
-    -- so it is the table of the part
-    pub front-table : (m : ℕ) → c .answer ≡ value m
-        → (c .index < k) × (tableOf n (inPart k (c .index) n (permitted (wordAt table))) ≡ some (frontOf m (c .out-after)))
+    -- what is handed out is what was due: the table of the part
+    pub handed-part : (bytes : List ℕ) → HandsOut (c .answer) (c .out-after) bytes → (c .index < k) × (tableOf n (inPart k (c .index) n (permitted (wordAt table))) ≡ some bytes)
     unfolding due
-    front-table m e =
-        let a = passed (ltb (length (c .sheet) / 8) (needed N)) refused-not (front-due m e) in
+    handed-part bytes h =
+        let d = handed-out (due table n N k c) (c .out) (c .answer) (c .out-after) answer-is (K .writes ∙ ap (λ a. outAfter a (c .out)) (due-is c)) bytes h in
+        let a = passed (ltb (length (c .sheet) / 8) (needed N)) refused-not d in
         let b = passed (leb k (c .index)) refused-not (a .1) in
-        (leb-false k (c .index) (b .0), fitted-some (length (c .out)) _ (frontOf m (c .out-after)) (b .1))
+        (leb-false k (c .index) (b .0), fitted-some (length (c .out)) _ bytes (b .1))

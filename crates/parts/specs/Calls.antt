@@ -2,8 +2,8 @@
 use Prim.Native.Nat.{ℕ}
 use mathlib.Core.Path.{_≡_}
 use mathlib.Core.List.{List, List·Memᴰ}
-use Rattle.diagram.specs.Answer.{Answer, value}
-use Rattle.tables.specs.Writing.{frontOf}
+use Rattle.diagram.specs.Answer.{Answer}
+use Rattle.tables.specs.Writing.{HandsOut}
 use Rattle.parts.specs.Operations.{Promise}
 
 -- a call: the index, the sheet and the out memory at entry, and the answer, the sheet and the out memory at return
@@ -19,11 +19,9 @@ pub record Call : Type 0 where
 abbrev pub Kept : List ℕ → ℕ → Call → Type 0
 Kept table k c = Promise table k (c .index) (c .sheet) (c .out) (c .answer) (c .sheet-after) (c .out-after)
 
--- part j was written as these bytes: some call for j answered a number, and they are the front of that many bytes that stood when it returned
+-- part j was written as these bytes: some call for j handed them out
 pub record Wrote (calls : List Call) (j : ℕ) (bytes : List ℕ) : Type 0 where
   pub call : Call
   pub listed : List·Memᴰ call calls
   pub index-is : call .index ≡ j
-  pub count : ℕ
-  pub answered : call .answer ≡ value count
-  pub read : bytes ≡ frontOf count (call .out-after)
+  pub handed : HandsOut (call .answer) (call .out-after) bytes

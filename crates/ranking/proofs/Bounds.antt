@@ -6,9 +6,8 @@ use mathlib.Core.List.{List}
 use mathlib.Core.Option.{Option, none, some}
 use native.Mathlib.Omega.{arith}
 use native.Mathlib.Nat.{lt-of-lt-of-le}
-use lib.ListN.{getD}
 use lib.Pow.{pow-mono}
-use Rattle.words.specs.Words.{wordAt}
+use Rattle.words.specs.Words.{Bytes, wordAt}
 use Rattle.diagram.specs.Format.{settings, nodes}
 use Rattle.diagram.specs.Meaning.{permitted}
 use Rattle.diagram.specs.Count.{countBelow, select}
@@ -57,13 +56,13 @@ unfolding unranking
 unranking-back t r s = hands-back (λ N. N + 1) t s _ (λ _. unrank-refuses Late (omega arith) r (settings (wordAt t)) (permitted (wordAt t)))
 
 -- a setup and its rank are below 2 ^ 63
-has-rank-fits : (t : List ℕ) (x r : ℕ) → ((i : ℕ) → getD t i 0 < 256) → HasRank t x r → (x < 2 ^ 63) × (r < 2 ^ 63)
+has-rank-fits : (t : List ℕ) (x r : ℕ) → Bytes t → HasRank t x r → (x < 2 ^ 63) × (r < 2 ^ 63)
 has-rank-fits t x r f h =
     let x-fits : x < 2 ^ 63 = lt-of-lt-of-le (h .below) (pow-mono (settings-fit t f)) in
     (x-fits, omega (arith, h .rank, count-le (permitted (wordAt t)) x))
 
-pub rank-fits : (t s : List ℕ) (x r : ℕ) → ((i : ℕ) → getD t i 0 < 256) → ranking t x s ≡ value r → r < 2 ^ 63
+pub rank-fits : (t s : List ℕ) (x r : ℕ) → Bytes t → ranking t x s ≡ value r → r < 2 ^ 63
 rank-fits t s x r f e = has-rank-fits t x r f (ranked-has t s x r e) .1
 
-pub setup-fits : (t s : List ℕ) (x r : ℕ) → ((i : ℕ) → getD t i 0 < 256) → unranking t r s ≡ value x → x < 2 ^ 63
+pub setup-fits : (t s : List ℕ) (x r : ℕ) → Bytes t → unranking t r s ≡ value x → x < 2 ^ 63
 setup-fits t s x r f e = has-rank-fits t x r f (unranked-has t s x r e) .0

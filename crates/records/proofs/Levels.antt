@@ -17,7 +17,7 @@ use Rattle.diagram.proofs.AnswerLaws.{each-next}
 use Rattle.diagram.proofs.Accept.{fitting, records-reduced}
 use Rattle.diagram.proofs.Fields.{height-node}
 use Rattle.diagram.proofs.Paths.{tall-node, height-le-settings}
-use Rattle.diagram.proofs.Unique.{rising}
+use Rattle.diagram.proofs.Ascending.{rising}
 use Rattle.records.specs.Inner.{InLevel, PassFrom}
 
 -- the code's tests of a word, the last two by their answers

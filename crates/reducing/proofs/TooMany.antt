@@ -86,7 +86,7 @@ module _ (g : ℕ → ℕ) (E : Bool → ℕ → ℕ) (r : ℕ → ℕ) (L : Wor
       subst (Twin L w N) e (record {
         node = a .edge / 2;
         inside = a .inside;
-        means = same-node L w n c N (levelled-reduced g E r L n M c h D S low) R (r v) (a .edge) (omega arith) (a .inside)
+        means = same-node (levelled-reduced g E r L n M c h D S low) R (r v) (a .edge) (omega arith) (a .inside)
             (λ x. levelled-means g E r L n M c h D S low s F means kept v (o .inside) (o .low) x ∙ sym (a .means x));
       })
 
@@ -97,7 +97,7 @@ module _ (g : ℕ → ℕ) (E : Bool → ℕ → ℕ) (r : ℕ → ℕ) (L : Wor
   no-table : (t : List ℕ) (N : ℕ) → TableFor n P t N → ⊥
   unfolding permitted
   no-table t N T =
-      omega (arith, A .few, twins-le L w n c N (levelled-reduced g E r L n M c h D S low) (record-twin g E r L n M c h D S low s F means kept w N R edges))
+      omega (arith, A .few, twins-le (levelled-reduced g E r L n M c h D S low) (record-twin g E r L n M c h D S low s F means kept w N R edges))
     where
       A : Accepted t n N
       A = accepts-accepted t n N (T .accepts)

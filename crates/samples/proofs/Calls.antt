@@ -41,8 +41,8 @@ A-divided = division A 3 3 2 A-accepted (lit< tt) (lit≤ tt) calls calls-kept
 -- ... and both parts were written
 pub wrote-0 : Wrote calls 0 A₀
 unfolding calls call lengthOf
-wrote-0 = record { call = call 0 515 48 (value A₀); listed = List·Memᴰ·tail (List·Memᴰ·head refl); index-is = refl; count = length A₀; answered = refl; read = sym (front-written A₀ (bytesOf 48 0)) }
+wrote-0 = record { call = call 0 515 48 (value A₀); listed = List·Memᴰ·tail (List·Memᴰ·head refl); index-is = refl; handed = record { count = length A₀; answered = refl; read = sym (front-written A₀ (bytesOf 48 0)) } }
 
 pub wrote-1 : Wrote calls 1 A₁
 unfolding calls call lengthOf
-wrote-1 = record { call = call 1 515 40 (value A₁); listed = List·Memᴰ·head refl; index-is = refl; count = length A₁; answered = refl; read = sym (front-written A₁ (bytesOf 40 0)) }
+wrote-1 = record { call = call 1 515 40 (value A₁); listed = List·Memᴰ·head refl; index-is = refl; handed = record { count = length A₁; answered = refl; read = sym (front-written A₁ (bytesOf 40 0)) } }

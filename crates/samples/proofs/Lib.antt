@@ -1,4 +1,4 @@
--- The samples, those of lists, of sheets, of the way down, of the order of the rules, of setups ruled out and of a loose table, and that demand 3 is not empty.
+-- The samples, those of lists, of sheets, of the way down, of the order of the rules, of setups ruled out, of a loose table, of pairs of tables that permit the same, and that demand 3 is not empty.
 pub mod PartSamples
 pub mod PartsOfA
 pub mod Samples
@@ -9,3 +9,4 @@ pub mod Settings
 pub mod EdgeFirst
 pub mod Exclusion
 pub mod Loose
+pub mod EqualFiles

@@ -7,3 +7,4 @@ pub mod Settings
 pub mod EdgeFirst
 pub mod Exclusion
 pub mod Loose
+pub mod EqualFiles

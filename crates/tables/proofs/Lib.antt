@@ -1,4 +1,5 @@
 -- The laws of the table of a set, and of writing it.
+pub mod EqualFiles
 pub mod TableFor
 pub mod TableLaws
 pub mod WritingLaws

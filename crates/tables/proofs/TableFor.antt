@@ -1,24 +1,20 @@
 -- The tables of a set of setups: what they are, and that there is one only, to the byte. Assumes nothing.
 use Prim.Native.Nat.{ℕ, zero, suc, _+_, _*_, _^_, _<_}
-use mathlib.Core.Path.{_≡_, refl, sym, ap, ap₂, _∙_}
+use mathlib.Core.Path.{_≡_, refl, sym, ap, _∙_}
 use mathlib.Core.Bool.{Bool, true, false, not, xor, true≢false, and-eq-true-iff}
 use mathlib.Core.List.{List}
 use native.Mathlib.Omega.{arith}
 use lib.ListN.{length}
 use borrow.Author.Tests.{eqb-true, eq-eqb, not-true}
-use Rattle.words.specs.Words.{wordAt}
+use Rattle.words.specs.Words.{Bytes, wordAt}
 use Rattle.words.proofs.Cases.{less, same, more, tri, or-false, join-false}
-use Rattle.words.proofs.Bytes.{Bytes, words-inj}
-use Rattle.diagram.specs.Format.{Words, settings, nodes, root}
 use Rattle.diagram.specs.Meaning.{permitted}
 use Rattle.diagram.specs.Count.{someBelow}
 use Rattle.diagram.specs.Answer.{Answer, value, refusal}
 use Rattle.diagram.specs.Rules.{check, Accepts}
-use Rattle.diagram.specs.Ordered.{Accepted}
 use Rattle.diagram.proofs.Accept.{accepts-accepted}
-use Rattle.diagram.proofs.Unique.{word-fields}
-use Rattle.diagram.proofs.Canonical.{Same, canonical}
 use Rattle.tables.specs.Table.{acceptedWith, isTable}
+use Rattle.tables.proofs.EqualFiles.{equal-files}
 
 -- an accepted table of n settings and N nodes that permits exactly the setups that pass P
 pub record TableFor (n : ℕ) (P : ℕ → Bool) (bytes : List ℕ) (N : ℕ) : Type 0 where
@@ -78,25 +74,12 @@ table-for-is n P bytes N t =
 pub table-long : (n : ℕ) (P : ℕ → Bool) (bytes : List ℕ) (N : ℕ) → TableFor n P bytes N → length bytes ≡ 8 * (N + 1)
 table-long n P bytes N t = accepts-accepted bytes n N (t .accepts) .long
 
--- a header is its fields
-header-is : (w w′ : Words) → settings w ≡ settings w′ → nodes w ≡ nodes w′ → root w ≡ root w′ → w 0 ≡ w′ 0
-unfolding settings nodes root
-header-is w w′ p q r = word-fields (w 0) ∙ ap₂ _+_ (ap₂ _+_ (ap (λ a. a * 2 ^ 58) p) (ap (λ a. a * 2 ^ 29) q)) r ∙ sym (word-fields (w′ 0))
+-- an accepted table is for what it permits
+pub table-own : (n : ℕ) (bytes : List ℕ) (N : ℕ) → Accepts bytes n N → TableFor n (permitted (wordAt bytes)) bytes N
+table-own n bytes N a = record { accepts = a; permits = λ x l. refl }
 
--- canonicity: two tables of one set are the same, to the byte
+-- two tables of one set are the same, to the byte
 pub table-unique : (n : ℕ) (P : ℕ → Bool) (s t : List ℕ) (M N : ℕ) → Bytes s → Bytes t → TableFor n P s M → TableFor n P t N → (M ≡ N) × (s ≡ t)
-unfolding permitted
 table-unique n P s t M N p q a b =
-    let c = canonical (wordAt s) (wordAt t) n M N (root (wordAt s)) (root (wordAt t)) (A .proper) (B .proper) (A .root-node) (B .root-node)
-    (λ x l. a .permits x l ∙ sym (b .permits x l)) in
-    (c .count, words-inj s t p q (M + 1) (A .long) (B .long ∙ ap (λ (m : ℕ). 8 * (m + 1)) (sym (c .count))) (word c))
-  where
-    A : Accepted s n M
-    A = accepts-accepted s n M (a .accepts)
-
-    B : Accepted t n N
-    B = accepts-accepted t n N (b .accepts)
-
-    word : Same (wordAt s) (wordAt t) M N (root (wordAt s)) (root (wordAt t)) → (k : ℕ) → k < M + 1 → wordAt s k ≡ wordAt t k
-    word c zero l = header-is (wordAt s) (wordAt t) (A .has-settings ∙ sym (B .has-settings)) (A .has-nodes ∙ c .count ∙ sym (B .has-nodes)) (c .edge)
-    word c (suc k) l = c .records k (omega arith)
+    let e = equal-files n M N s t p q (a .accepts) (b .accepts) .0 (λ x l. a .permits x l ∙ sym (b .permits x l)) in
+    (omega (arith, table-long n P s M a, table-long n P t N b, ap length e), e)

@@ -1,24 +1,27 @@
 -- The table that the definitions find: there is one exactly if an accepted table permits the set, and then it is that. Assumes nothing.
 use Prim.Native.Nat.{ℕ, _+_, _*_, _/_, _^_, _<_}
 use mathlib.Core.Path.{_≡_, refl, sym, ap, _∙_, subst}
+use mathlib.Core.Logic.{_↔_}
 use mathlib.Core.Bool.{Bool, true, true≢false}
 use mathlib.Core.List.{List}
 use mathlib.Core.Option.{Option, none, some, Option·map, bind, bind-eq-some-iff, map-eq-some-iff}
 use native.Mathlib.Omega.{arith}
 use lib.ListN.{length}
-use Rattle.words.specs.Words.{beAt, wordAt, bytesOf}
+use Rattle.words.specs.Words.{Bytes, beAt, wordAt, bytesOf}
 use Rattle.words.proofs.Laws.{be-fits, length-bytesOf}
-use Rattle.words.proofs.Bytes.{Bytes, bytes-bytesOf, bytesOf-number}
+use Rattle.words.proofs.Bytes.{bytes-bytesOf, bytesOf-number}
 use Rattle.diagram.specs.Format.{Words, root}
 use Rattle.diagram.specs.Meaning.{under, permitted}
 use Rattle.diagram.specs.Count.{select}
+use Rattle.diagram.specs.Rules.{Accepts}
 use Rattle.diagram.specs.Ordered.{Proper}
 use Rattle.diagram.proofs.CountLaws.{count-mono-lt}
 use Rattle.diagram.proofs.Select.{select-some, select-of, ranked}
 use Rattle.diagram.proofs.Accept.{accepts-accepted}
 use Rattle.diagram.proofs.Canonical.{canonical}
 use Rattle.tables.specs.Table.{isTable, tableWith, found, nodeCount, tableOf}
-use Rattle.tables.proofs.TableFor.{TableFor, is-table-for, table-for-is, table-long, table-unique}
+use Rattle.tables.proofs.EqualFiles.{equal-files}
+use Rattle.tables.proofs.TableFor.{TableFor, is-table-for, table-for-is, table-long, table-own, table-unique}
 
 -- a search that must succeed
 first-some : (P : ℕ → Bool) (m x : ℕ) → x < m → P x ≡ true → (y : ℕ) × (select P m 0 ≡ some y) × (P y ≡ true)
@@ -107,9 +110,23 @@ module _ (n : ℕ) (P : ℕ → Bool) where
         go (some M) p =
             let t = nodeCount-some M p in
             let A = accepts-accepted (t .0) n M (t .2 .accepts) in
-            let c = canonical w (wordAt (t .0)) n N M r (root (wordAt (t .0))) proper (A .proper) root-node (A .root-node) (λ x q. means x q ∙ sym (t .2 .permits x q)) in
+            let c = canonical r (root (wordAt (t .0))) proper (A .proper) root-node (A .root-node) (λ x q. means x q ∙ sym (t .2 .permits x q)) in
             absurd (omega (arith, c .count, A .few))
 
     pub tableOf-none : tableOf n P ≡ none
     unfolding tableOf bind
     tableOf-none = rw nodeCount-none
+
+-- an accepted table is the table of what it permits
+pub accepted-table : (n : ℕ) (t : List ℕ) (N : ℕ) → Bytes t → Accepts t n N → tableOf n (permitted (wordAt t)) ≡ some t
+accepted-table n t N bytes a = tableOf-is n (permitted (wordAt t)) t N bytes (table-own n t N a)
+
+-- the tables of two sets are equal exactly where the sets are
+pub equal-tables : (n : ℕ) (P Q : ℕ → Bool) (s t : List ℕ) → tableOf n P ≡ some s → tableOf n Q ≡ some t → ((x : ℕ) → x < 2 ^ n → P x ≡ Q x) ↔ (s ≡ t)
+equal-tables n P Q s t d e =
+    let a = tableOf-some n P s d in
+    let b = tableOf-some n Q t e in
+    let f = equal-files n (a .0) (b .0) s t (a .1) (b .1) (a .2 .accepts) (b .2 .accepts) in (
+      λ same. f .0 (λ x l. a .2 .permits x l ∙ same x l ∙ sym (b .2 .permits x l)),
+      λ is x l. sym (a .2 .permits x l) ∙ f .1 is x l ∙ b .2 .permits x l,
+    )

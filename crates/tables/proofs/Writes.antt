@@ -8,13 +8,13 @@ use mathlib.Core.Option.{Option, none, some}
 use native.Mathlib.Omega.{arith}
 use lib.Dec.{ltb}
 use lib.ListN.{length, drop}
+use Rattle.words.specs.Words.{Bytes}
 use Rattle.words.proofs.Cases.{passed}
-use Rattle.words.proofs.Bytes.{Bytes}
 use Rattle.diagram.specs.Answer.{Answer, value, refusal}
 use Rattle.diagram.proofs.AnswerLaws.{refused-not, value-inj}
-use Rattle.tables.specs.Table.{nodeCount, tableOf}
+use Rattle.tables.specs.Table.{isTable, nodeCount, tableOf}
 use Rattle.tables.specs.Writing.{fitted, lengthOf, outAfter}
-use Rattle.tables.proofs.TableFor.{TableFor}
+use Rattle.tables.proofs.TableFor.{is-table-for, table-for-is}
 use Rattle.tables.proofs.TableLaws.{nodeCount-is, nodeCount-some, tableOf-is, tableOf-some}
 use Rattle.tables.specs.Inner.{Writes}
 
@@ -69,15 +69,15 @@ fitted-refusal room (some bytes) number place e = go (ltb room (length bytes)) e
     go true q = inr cc
     go false q = absurd (refused-not (sym q))
 
--- 16 is answered exactly where no accepted table permits the set
-pub sixteen : (room n : ℕ) (P : ℕ → Bool) → (fitted room (tableOf n P) ≡ refusal 16 0) ↔ ((t : List ℕ) (N : ℕ) → Bytes t → TableFor n P t N → ⊥)
+-- 16 is answered exactly where no bytes are an accepted table that permits the set
+pub sixteen : (room n : ℕ) (P : ℕ → Bool) → (fitted room (tableOf n P) ≡ refusal 16 0) ↔ ((t : List ℕ) → Bytes t → isTable n P t ≡ true → ⊥)
 unfolding fitted
-sixteen room n P = (λ e t N b T. go t (ltb room (length t)) (sym (ap (fitted room) (tableOf-is n P t N b T)) ∙ e), then-none (tableOf n P) refl)
+sixteen room n P = (λ e t b i. let T = is-table-for n P t i in go t (ltb room (length t)) (sym (ap (fitted room) (tableOf-is n P t (T .0) b (T .1))) ∙ e), then-none (tableOf n P) refl)
   where
     go : (t : List ℕ) (c : Bool) → cond c (refusal 11 0) (value t) ≡ refusal 16 0 → ⊥
     go t true q = let z : _≡_ {A = ℕ} 11 16 = cc in omega arith
     go t false q = refused-not (sym q)
 
-    then-none : (o : Option (List ℕ)) → tableOf n P ≡ o → ((t : List ℕ) (N : ℕ) → Bytes t → TableFor n P t N → ⊥) → fitted room (tableOf n P) ≡ refusal 16 0
+    then-none : (o : Option (List ℕ)) → tableOf n P ≡ o → ((t : List ℕ) → Bytes t → isTable n P t ≡ true → ⊥) → fitted room (tableOf n P) ≡ refusal 16 0
     then-none none e f = rw e
-    then-none (some t) e f = let s = tableOf-some n P t e in absurd (f t (s .0) (s .1) (s .2))
+    then-none (some t) e f = let s = tableOf-some n P t e in absurd (f t (s .1) (table-for-is n P t (s .0) (s .2)))

@@ -1,5 +1,6 @@
 -- How an operation that writes a table answers, what it leaves in the out memory, and how that is handed out. Assumes nothing.
 use Prim.Native.Nat.{ℕ}
+use mathlib.Core.Path.{_≡_}
 use mathlib.Core.Bool.{cond}
 use mathlib.Core.List.{List, [], _++_}
 use mathlib.Core.Option.{Option, none, some}
@@ -25,3 +26,9 @@ outAfter (refusal number place) out = out
 -- the front of the out memory: its first m bytes, or nothing if m is above its length
 unfoldable pub frontOf : ℕ → List ℕ → List ℕ
 frontOf m out = cond (leb m (length out)) (take m out) []
+
+-- a call handed these bytes out: it answered a number, and they are the front of so many bytes that stood when it returned
+pub record HandsOut (answer : Answer ℕ) (out′ bytes : List ℕ) : Type 0 where
+  pub count : ℕ
+  pub answered : answer ≡ value count
+  pub read : bytes ≡ frontOf count out′

@@ -9,8 +9,7 @@ use native.Mathlib.Omega.{arith}
 use lib.Dec.{ltb}
 use lib.ListN.{length}
 use borrow.Author.Tests.{ne-eqb}
-use Rattle.words.specs.Words.{wordAt, wordsOver}
-use Rattle.words.proofs.Bytes.{Bytes}
+use Rattle.words.specs.Words.{Bytes, wordAt, wordsOver}
 use Rattle.diagram.specs.Format.{settings, nodes}
 use Rattle.diagram.specs.Meaning.{permitted}
 use Rattle.diagram.specs.Answer.{Answer, value, refusal, andThen}
@@ -23,13 +22,12 @@ use Rattle.loose.proofs.Records.{FourOrSix, records-refuse}
 use Rattle.loose.proofs.Loosely.{check-loosely, loosely-lent, accepted-loosely}
 use Rattle.checking.specs.Operations.{sheetBy}
 use Rattle.tables.specs.Table.{tableOf}
-use Rattle.tables.specs.Writing.{fitted, lengthOf, outAfter, frontOf}
+use Rattle.tables.specs.Writing.{fitted, lengthOf, frontOf, HandsOut}
 use Rattle.tables.proofs.TableFor.{TableFor}
-use Rattle.tables.proofs.TableLaws.{nodeCount-some, tableOf-is, tableOf-some, tableOf-long}
+use Rattle.tables.proofs.TableLaws.{nodeCount-some, tableOf-is, tableOf-some, tableOf-long, accepted-table}
 use Rattle.tables.proofs.Writes.{fitted-some}
-use Rattle.tables.proofs.WritingLaws.{front-written}
+use Rattle.tables.proofs.WritingLaws.{front-is, handed-out}
 use Rattle.tightening.specs.Operations.{needed, checkingLoose, makingProper, sheetAfter, Promise}
-use Rattle.tightening.proofs.Copies.{accepted-table}
 
 module _ (t s : List ℕ) (room : ℕ) where
   abbrev n : ℕ
@@ -72,7 +70,7 @@ accepts-loose t n N a = loosely-lent t 0 (λ _. 0) n N (accepted-loosely t n N (
 pub proper-back : (t s : List ℕ) (room n N : ℕ) → Bytes t → Accepts t n N
     → makingProper t s room ≡ cond (ltb (length s / 8) (needed N)) (refusal 10 0) (cond (ltb room (length t)) (refusal 11 0) (value t))
 unfolding fitted
-proper-back t s room n N b a = loose-served t s room n N (accepts-loose t n N a) ∙ rw (accepted-table t n N b (accepts-accepted t n N a))
+proper-back t s room n N b a = loose-served t s room n N (accepts-loose t n N a) ∙ rw (accepted-table n t N b a)
 
 -- the refusals of the loose table's own rules: 1 to 3 and 10, at place 0, and 4 and 6, at a record
 abbrev pub Own : ℕ → ℕ → ℕ → Type 0
@@ -145,8 +143,11 @@ module _ (t s out : List ℕ) (answer : Answer ℕ) (s′ out′ : List ℕ) (P 
 
   -- the table is handed out as a part is: the front of so many bytes is it
   pub written-front : (bytes : List ℕ) → makingProper t s (length out) ≡ value bytes → (answer ≡ value (length bytes)) × (frontOf (length bytes) out′ ≡ bytes)
-  unfolding lengthOf
-  written-front bytes e = (P .answers ∙ ap lengthOf e, ap (frontOf (length bytes)) (P .writes ∙ ap (λ (a : Answer (List ℕ)). outAfter a out) e) ∙ front-written bytes out)
+  written-front = front-is (makingProper t s (length out)) out answer out′ (P .answers) (P .writes)
+
+  -- and nothing else is
+  pub handed-table : (bytes : List ℕ) → HandsOut answer out′ bytes → tableOf (settings (wordAt t)) (permitted (wordAt t)) ≡ some bytes
+  handed-table bytes h = written-table t s (length out) bytes (handed-out (makingProper t s (length out)) out answer out′ (P .answers) (P .writes) bytes h)
 
 -- the sheet: a refusal of the loose table's own rules leaves it untouched
 pub sheet-untouched : (t s : List ℕ) (number place : ℕ) → checkingLoose t s ≡ refusal number place → sheetAfter t s ≡ s

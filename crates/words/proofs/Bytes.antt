@@ -7,13 +7,9 @@ use native.Mathlib.Nat.{mod-lt, mod-eq-of-lt, div-one, zero-add}
 use lib.Dec.{lit<}
 use lib.ListN.{length, getD, List·getD-append, List·getD-eq-default}
 use lib.Seq.{ext-getD, getD-append-add}
-use Rattle.words.specs.Words.{beAt, wordAt, bytesOf, wordsBytes}
+use Rattle.words.specs.Words.{Bytes, beAt, wordAt, bytesOf, wordsBytes}
 use Rattle.words.proofs.Cases.{less, same, more, tri}
 use Rattle.words.proofs.Laws.{be-fits, length-bytesOf, be-bytesOf, words-at}
-
--- every element is a byte
-abbrev pub Bytes : List ℕ → Type 0
-Bytes l = (i : ℕ) → getD l i 0 < 256
 
 -- bytes that spell the same number are the same
 be-inj : (s t : List ℕ) → Bytes s → Bytes t → (at m : ℕ) → beAt s at m ≡ beAt t at m → (i : ℕ) → i < m → getD s (at + i) 0 ≡ getD t (at + i) 0

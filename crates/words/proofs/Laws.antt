@@ -8,16 +8,16 @@ use lib.Dec.{lit<}
 use lib.Arith.{mod-mul}
 use lib.ListN.{length, getD, drop, length-append, length-drop, List·getD-append}
 use lib.Seq.{getD-append-add, take-at, drop-at, drop-drop, drop-append-add}
-use Rattle.words.specs.Words.{beAt, wordAt, bytesOf, putWord, wordsBytes, wordsOver}
+use Rattle.words.specs.Words.{Bytes, beAt, wordAt, bytesOf, putWord, wordsBytes, wordsOver}
 use Rattle.words.proofs.Cases.{less, same, more, tri}
 
 -- a word of bytes fits 64 bits
-pub be-fits : (l : List ℕ) → ((i : ℕ) → getD l i 0 < 256) → (at m : ℕ) → beAt l at m < 256 ^ m
+pub be-fits : (l : List ℕ) → Bytes l → (at m : ℕ) → beAt l at m < 256 ^ m
 unfolding beAt
 be-fits l f at zero = lit< tt
 be-fits l f at (suc m) = rw (pow-suc 256 m) (omega (arith, be-fits l f at m, f (at + m)))
 
-pub word-fits : (l : List ℕ) (k : ℕ) → ((i : ℕ) → getD l i 0 < 256) → wordAt l k < 2 ^ 64
+pub word-fits : (l : List ℕ) (k : ℕ) → Bytes l → wordAt l k < 2 ^ 64
 unfolding wordAt
 word-fits l k f = be-fits l f (8 * k) 8
 

@@ -8,7 +8,7 @@ use native.Mathlib.Numerals.{towards-suc}
 use lib.Dec.{lit<}
 use lib.ListN.{length, getD, set}
 use lib.Seq.{sets-eq}
-use Rattle.words.specs.Words.{beAt, wordAt, bytesOf, putWord}
+use Rattle.words.specs.Words.{Bytes, beAt, wordAt, bytesOf, putWord}
 use Rattle.words.specs.Swap.{swap}
 
 -- eight bytes, most significant first
@@ -50,7 +50,7 @@ byte : (u : ℕ) → u % 256 < 256
 byte u = mod-lt u (lit< tt)
 
 -- eight loads, least significant byte first, as the code makes them
-pub swap-loads : (l : List ℕ) (k : ℕ) → ((i : ℕ) → getD l i 0 < 256)
+pub swap-loads : (l : List ℕ) (k : ℕ) → Bytes l
     → swap (getD l (8 * k) 0 + getD l (8 * k + 1) 0 * 256 + getD l (8 * k + 2) 0 * 65536 + getD l (8 * k + 3) 0 * 16777216 + getD l (8 * k + 4) 0 * 4294967296
     + getD l (8 * k + 5) 0 * 1099511627776 + getD l (8 * k + 6) 0 * 281474976710656 + getD l (8 * k + 7) 0 * 72057594037927936)
     ≡ wordAt l k

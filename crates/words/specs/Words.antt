@@ -1,7 +1,11 @@
--- Words of 64 bits in a list of bytes, most significant byte first. Assumes nothing.
-use Prim.Native.Nat.{ℕ, zero, suc, _+_, _*_, _/_, _%_, _^_}
+-- Bytes, and words of 64 bits in a list of them, most significant byte first. Assumes nothing.
+use Prim.Native.Nat.{ℕ, zero, suc, _+_, _*_, _/_, _%_, _^_, _<_}
 use mathlib.Core.List.{List, [], _∷_, _++_}
 use lib.ListN.{getD, take, drop}
+
+-- every element is a byte: so it is of all memory
+abbrev pub Bytes : List ℕ → Type 0
+Bytes l = (i : ℕ) → getD l i 0 < 256
 
 -- the number that the m bytes from position `at` spell, most significant first
 unfoldable pub beAt : List ℕ → ℕ → ℕ → ℕ

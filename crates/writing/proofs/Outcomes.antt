@@ -4,7 +4,7 @@ use mathlib.Core.Path.{_≡_, _∙_}
 use mathlib.Core.Bool.{Bool}
 use mathlib.Core.List.{List, _++_}
 use lib.ListN.{length, drop}
-use Rattle.words.proofs.Bytes.{Bytes}
+use Rattle.words.specs.Words.{Bytes}
 use Rattle.diagram.specs.Format.{Words}
 use Rattle.diagram.specs.Meaning.{under}
 use Rattle.diagram.specs.Answer.{value, refusal}
