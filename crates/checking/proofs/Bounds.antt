@@ -1,5 +1,5 @@
 -- What the operations answer fits the packed form: places up to 65,535, n up to 63 and N up to 65,535. Assumes nothing.
-use Prim.Native.Nat.{ℕ, _+_, _/_, _^_, _≤_, _<_}
+use Prim.Native.Nat.{ℕ, _+_, _/_, _^_, _≤_}
 use mathlib.Core.Path.{_≡_, sym}
 use mathlib.Core.Bool.{Bool}
 use mathlib.Core.List.{List}

@@ -1,4 +1,4 @@
--- The table of a set of setups, and how it is written.
+-- The table of a set of setups, how it is written, and that equal contents are equal files.
 pub mod EqualFiles
 pub mod Table
 pub mod Writing
