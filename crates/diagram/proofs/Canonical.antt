@@ -60,7 +60,7 @@ module _ {w w′ : Words} {n N N′ : ℕ} (D : Reduced w n N) (D′ : Reduced w
 
   -- rule 9 in the first, and the last nodes mean the same
   module _ (named : Named w N) (top : plain w N ≈ plain w′ N′) where
-    -- every node has a twin: the last one, and then what a record with a twin names
+    -- every node has a twin: the last one, what a record with a twin names, and the sink
     twin : (d k : ℕ) → N ≤ k + d → k ≤ N → Twin w w′ N′ k
     unfolding plain holds height
     twin zero k l m = let e : k ≡ N = omega arith in rw e (record { node = N′; inside = le-refl N′; means = top })
@@ -74,15 +74,17 @@ module _ {w w′ : Words} {n N N′ : ℕ} (D : Reduced w n N) (D′ : Reduced w
       | more q ↦ absurd (omega arith)
     ]
 
-    -- where the first m records agree and w has one more, w′ has one more too, and it is not above: the twin of node m + 1 is none of the first m, and has the same record
+    -- where the first m records agree and w has one more, w′ has one more too, and it is not above
     next : (m : ℕ) → m < N → m ≤ N′ → ((k : ℕ) → k < m → w (suc k) ≡ w′ (suc k)) → (m < N′) × (w′ (suc m) ≤ w (suc m))
     next m l l′ a = let t = twin N (suc m) (omega arith) l in go (t .node) (t .inside) (t .means)
       where
+        -- the twin of node m + 1 is none of the first m
         later : (b : ℕ) → plain w (suc m) ≈ plain w′ b → b ≤ m → ⊥
         later b s q =
             let e = node-unique D (suc m) b l (omega arith) (λ x. s x ∙ sym (agree-plain w w′ n N (D .ordered) m (omega arith) a b x q)) in
             omega arith
 
+        -- and has the same record, since its edges lead to these
         record-of : (b : ℕ) → b < N′ → plain w (suc m) ≈ plain w′ (suc b) → w (suc m) ≡ w′ (suc b)
         record-of b i s =
             let h = same-height (suc m) (suc b) l i s in
