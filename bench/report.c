@@ -33,6 +33,14 @@ static void print_machine(void)
            __VERSION__);
 }
 
+/* The end of a row: its medians, warm and cleared. */
+static void print_two_conditions(const double micros[][SIDES])
+{
+    const double *a = micros[WARM], *c = micros[CLEARED];
+    printf(" %9.2f | %10.2f | %5.2f | %12.2f | %13.2f | %5.2f |\n", a[OURS], a[PLAIN], a[OURS] / a[PLAIN], c[OURS], c[PLAIN],
+           c[OURS] / c[PLAIN]);
+}
+
 static void print_medians(const struct results *r)
 {
     printf("## Times\n\n"
@@ -45,10 +53,8 @@ static void print_medians(const struct results *r)
            PART, PARTS, ITEMS);
     for (int w = 0; w < WORKLOADS; w++)
         for (int op = 0; op < OPERATIONS; op++) {
-            const double *a = r->micros[w][op][WARM], *c = r->micros[w][op][CLEARED];
-            printf("| %-11s | %6u | %-13s | %9.2f | %10.2f | %5.2f | %12.2f | %13.2f | %5.2f |\n", r->table[w].name,
-                   r->table[w].count, operation_name(op), a[OURS], a[PLAIN], a[OURS] / a[PLAIN], c[OURS], c[PLAIN],
-                   c[OURS] / c[PLAIN]);
+            printf("| %-11s | %6u | %-13s |", r->table[w].name, r->table[w].count, operation_name(op));
+            print_two_conditions(r->micros[w][op]);
         }
     printf("\n![rank and part-write against N](bench.svg)\n\n");
 }
@@ -139,9 +145,8 @@ static void print_two_medians(const struct results *r)
            "|--------------------------|------:|-----------|----------:|-----------:|------:"
            "|-------------:|--------------:|------:|\n");
     for (int i = 0; i < ROWS; i++) {
-        const double *a = r->row_micros[i][WARM], *c = r->row_micros[i][CLEARED];
-        printf("| %-24s | %5zu | %-9s | %9.2f | %10.2f | %5.2f | %12.2f | %13.2f | %5.2f |\n", r->row[i].name, r->row[i].pairs,
-               operation_name(r->row[i].op), a[OURS], a[PLAIN], a[OURS] / a[PLAIN], c[OURS], c[PLAIN], c[OURS] / c[PLAIN]);
+        printf("| %-24s | %5zu | %-9s |", r->row[i].name, r->row[i].pairs, operation_name(r->row[i].op));
+        print_two_conditions(r->row_micros[i]);
     }
     printf("\n");
 }
@@ -223,10 +228,8 @@ static void print_loose_medians(const struct results *r)
            "| table           |     N |    N' | ours warm | plain warm | ratio | ours cleared | plain cleared | ratio |\n"
            "|-----------------|------:|------:|----------:|-----------:|------:|-------------:|--------------:|------:|\n");
     for (int i = 0; i < LOOSE; i++) {
-        const double *a = r->loose_micros[i][WARM], *c = r->loose_micros[i][CLEARED];
-        printf("| %-15s | %5u | %5u | %9.2f | %10.2f | %5.2f | %12.2f | %13.2f | %5.2f |\n", r->loose[i].table.name,
-               r->loose[i].table.count, r->loose[i].proper.count, a[OURS], a[PLAIN], a[OURS] / a[PLAIN], c[OURS], c[PLAIN],
-               c[OURS] / c[PLAIN]);
+        printf("| %-15s | %5u | %5u |", r->loose[i].table.name, r->loose[i].table.count, r->loose[i].proper.count);
+        print_two_conditions(r->loose_micros[i]);
     }
     printf("\n");
 }

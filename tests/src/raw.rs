@@ -59,27 +59,13 @@ impl Source {
     /// A table, and whether it is raw bytes. One in eight is not, but an accepted one with up to
     /// three bytes changed.
     pub fn table(&self, rng: &mut Rng) -> (Vec<u8>, bool) {
-        if rng.below(20_000) == 0 {
-            (changed(rng, self.wide.clone()), false)
-        } else if rng.below(8) == 0 {
-            let table = self.accepted[rng.index(self.accepted.len())].clone();
-            (changed(rng, table), false)
-        } else {
-            (raw(rng), true)
-        }
+        raw_or_changed(rng, &self.wide, &self.accepted, 8)
     }
 
     /// A loose table, and whether it is raw bytes, as every other one is. The others are loose ones
     /// with up to three bytes changed.
     pub fn loose_table(&self, rng: &mut Rng) -> (Vec<u8>, bool) {
-        if rng.below(20_000) == 0 {
-            (changed(rng, self.wide_loose.clone()), false)
-        } else if rng.below(2) == 0 {
-            let table = self.loose[rng.index(self.loose.len())].clone();
-            (changed(rng, table), false)
-        } else {
-            (raw(rng), true)
-        }
+        raw_or_changed(rng, &self.wide_loose, &self.loose, 2)
     }
 
     /// Two tables, each with whether it is raw bytes, as every other one is. The others are accepted
@@ -253,6 +239,19 @@ fn claim_length(rng: &mut Rng, bytes: &mut [u8]) {
         root
     };
     first.copy_from_slice(&word(n, node_count, root).to_be_bytes());
+}
+
+/// Raw bytes, or one time in `one_in` one of some tables, with up to three bytes changed; rarely it is
+/// the wide one. And whether it is raw bytes.
+fn raw_or_changed(rng: &mut Rng, wide: &[u8], some: &[Vec<u8>], one_in: u64) -> (Vec<u8>, bool) {
+    if rng.below(20_000) == 0 {
+        (changed(rng, wide.to_vec()), false)
+    } else if rng.below(one_in) == 0 {
+        let table = some[rng.index(some.len())].clone();
+        (changed(rng, table), false)
+    } else {
+        (raw(rng), true)
+    }
 }
 
 /// Up to three bytes changed, or a length that does not fit.

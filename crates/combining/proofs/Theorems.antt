@@ -27,7 +27,7 @@ use Rattle.tables.specs.Writing.{fitted, frontOf, HandsOut}
 use Rattle.tables.proofs.TableFor.{TableFor}
 use Rattle.tables.proofs.TableLaws.{tableOf-some}
 use Rattle.tables.proofs.Writes.{fitted-some, fitted-refusal, sixteen}
-use Rattle.tables.proofs.WritingLaws.{front-is, handed-out}
+use Rattle.tables.proofs.HandingOut.{front-is, handed-out}
 use Rattle.pairing.specs.Pairs.{pairCount}
 use Rattle.pairing.proofs.Exploring.{none-held}
 use Rattle.naming.specs.declared.Operation.{Operation}

@@ -13,7 +13,8 @@ use Rattle.checking.proofs.Bounds.{settings-fit}
 use Rattle.tables.specs.EqualFiles.{SameSetups}
 use Rattle.tables.specs.Table.{tableOf}
 use Rattle.tables.proofs.TableLaws.{tableOf-some, accepted-table, equal-tables}
-use Rattle.tables.proofs.WritingLaws.{empty-table, handed-out}
+use Rattle.tables.proofs.WritingLaws.{empty-table}
+use Rattle.tables.proofs.HandingOut.{handed-out}
 use Rattle.parts.specs.Operations.{partWriting}
 use Rattle.parts.proofs.Promised.{written-part}
 use Rattle.naming.specs.declared.Operation.{Operation}

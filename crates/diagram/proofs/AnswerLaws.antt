@@ -2,7 +2,7 @@
 use Prim.Native.Nat.{ℕ, zero, suc, _<_}
 use mathlib.Core.Path.{_≡_, refl, sym, _∙_, subst}
 use mathlib.Core.Logic.{_⊎_, inl, inr}
-use mathlib.Core.Bool.{Bool, true, false, _||_, true≢false}
+use mathlib.Core.Bool.{Bool, true, false, cond, _||_, true≢false}
 use native.Mathlib.Omega.{arith}
 use Rattle.words.proofs.Cases.{less, same, more, tri, or-either}
 use Rattle.diagram.specs.Count.{someBelow}
@@ -23,6 +23,12 @@ then-some (refusal r p) f e = absurd (refused-not e)
 
 pub then-value : {B : Type 0} (a : Answer (Unit {0})) (f : Unit {0} → Answer B) {b : B} → andThen a f ≡ value b → (a ≡ pass) × (f tt ≡ value b)
 then-value a f e = let s = then-some a f e in (s .1, s .2)
+
+-- a refusal on a condition, and then more
+pub then-unless : {A B : Type 0} (b : Bool) (r p : ℕ) (v : A) (f : A → Answer B) → andThen (cond b (refusal r p) (value v)) f ≡ cond b (refusal r p) (f v)
+unfolding andThen
+then-unless true r p v f = refl
+then-unless false r p v f = refl
 
 -- a run of checks passes if each does
 pub each-all : (f : ℕ → Answer (Unit {0})) (m : ℕ) → each f m ≡ pass → (k : ℕ) → k < m → f k ≡ pass

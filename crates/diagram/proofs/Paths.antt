@@ -1,12 +1,13 @@
 -- One step from a node of an ordered diagram, or of a loose one. Assumes nothing.
 use Prim.Native.Nat.{ℕ, zero, suc, _/_, _%_, _≤_, _<_}
 use mathlib.Core.Path.{_≡_, refl, sym, ap, _∙_}
-use mathlib.Core.Bool.{Bool, true, false, cond}
+use mathlib.Core.Bool.{Bool, true, false}
 use native.Mathlib.Nat.{le-refl}
 use native.Mathlib.Omega.{arith}
-use Rattle.diagram.specs.Format.{Words, height, thenEdge, elseEdge}
+use Rattle.diagram.specs.Format.{Words, height}
 use Rattle.diagram.specs.Meaning.{bit, branch, flip, holds, plain, under}
 use Rattle.diagram.specs.Ordered.{LooseRecords, Ordered}
+pub use Rattle.diagram.specs.Reading.{side}
 
 -- edge 0 means always permitted, edge 1 never
 pub under-always : (w : Words) (x : ℕ) → under w 0 x ≡ true
@@ -16,10 +17,6 @@ under-always w x = refl
 pub under-never : (w : Words) (x : ℕ) → under w 1 x ≡ false
 unfolding under flip plain holds height
 under-never w x = refl
-
--- an edge of node k by its side: the then-edge, or the else-edge
-abbrev pub side : Words → Bool → ℕ → ℕ
-side w b k = cond b (thenEdge w k) (elseEdge w k)
 
 module _ (w : Words) (n N : ℕ) (D : LooseRecords w n N) where
   -- either edge of a loose diagram leads to a node of smaller height

@@ -46,6 +46,10 @@ opposite (suc f) m c = m - c
 unfoldable pub share : Words → ℕ → ℕ
 share w k = countBelow (plain w k) (2 ^ 63)
 
+-- an edge of node k by its side: the then-edge (on), or the else-edge
+abbrev pub side : Words → Bool → ℕ → ℕ
+side w on k = cond on (thenEdge w k) (elseEdge w k)
+
 -- edge e, or its complement if f is set
 unfoldable pub turn : ℕ → ℕ → ℕ
 turn zero e = e
@@ -57,4 +61,4 @@ recordOf h t e = h * 2 ^ 58 + t * 2 ^ 29 + e
 
 -- edge e as it goes on where the setting of height h is on or off (a cofactor): the node's own edge of that side, or e itself if the node lies lower
 unfoldable pub cofactor : Words → ℕ → Bool → ℕ → ℕ
-cofactor w h on e = cond (ltb (height w (e / 2)) h) e (turn (e % 2) (cond on (thenEdge w (e / 2)) (elseEdge w (e / 2))))
+cofactor w h on e = cond (ltb (height w (e / 2)) h) e (turn (e % 2) (side w on (e / 2)))

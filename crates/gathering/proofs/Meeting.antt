@@ -10,9 +10,10 @@ use Rattle.words.specs.Words.{wordAt, putWord}
 use Rattle.words.proofs.Cases.{less, same, more, tri}
 use Rattle.words.proofs.Stores.{stored, stored-long, stored-byte, word-set}
 use Rattle.diagram.specs.Format.{Words, height}
+use Rattle.diagram.specs.Reading.{side}
 use Rattle.diagram.proofs.Members.{distinct-le}
 use Rattle.diagram.proofs.Paths.{loose-node}
-use Rattle.gathering.specs.Inner.{LooseWithin, edge, mark, NoMarks, Meets, Met, AllMet}
+use Rattle.gathering.specs.Inner.{LooseWithin, mark, NoMarks, Meets, Met, AllMet}
 
 -- the record of a node inside is there, and so are the nodes of its edges
 module _ (t : List ℕ) (P v : ℕ) (I : LooseWithin t P v) where
@@ -22,7 +23,7 @@ module _ (t : List ℕ) (P v : ℕ) (I : LooseWithin t P v) where
   pub within-place : v < P
   within-place = omega (arith, I .inside, I .places)
 
-  pub edge-inside : (b : Bool) (u : ℕ) → 0 < u → u < P → edge (wordAt t) b u / 2 < P
+  pub edge-inside : (b : Bool) (u : ℕ) → 0 < u → u < P → side (wordAt t) b u / 2 < P
   edge-inside b zero s l = absurd (omega arith)
   edge-inside b (suc u) s l = omega (arith, loose-node (wordAt t) (I .settings) (I .nodes) (I .records) b u (omega (arith, I .places)), I .places)
 
@@ -66,7 +67,7 @@ met-few w s P i count root M some =
 
 -- node v is met: it is the root, or a node that was met leads to it
 module _ (w : Words) (s t : List ℕ) (P i count root v r : ℕ) (M : Met w s P i count root) (inside : v < P) (room : count < P) (X : Meets s t P count v r)
-    (why : (v ≡ root → ⊥) → (j : ℕ) × (b : Bool) × (j < count) × (edge w b (wordAt s j) / 2 ≡ v)) where
+    (why : (v ≡ root → ⊥) → (j : ℕ) × (b : Bool) × (j < count) × (side w b (wordAt s j) / 2 ≡ v)) where
   word-stays : (k : ℕ) → k < count → wordAt t k ≡ wordAt s k
   word-stays k l = X .others k (omega arith) (λ e. omega arith)
 
@@ -119,8 +120,8 @@ module _ (w : Words) (s t : List ℕ) (P i count root v r : ℕ) (M : Met w s P 
       old n = let k = M .listed u l p (sym (X .marks u l n) ∙ m) in (k .0, omega (arith, k .1, up), word-stays (k .0) (k .1) ∙ k .2)
 
   -- a node that leads to another one still does
-  leads : (x : ℕ) → (j : ℕ) × (b : Bool) × (j < count) × (edge w b (wordAt s j) / 2 ≡ x) → (j : ℕ) × (b : Bool) × (j < r) × (edge w b (wordAt t j) / 2 ≡ x)
-  leads x (j, b, l, e) = (j, b, omega (arith, l, up), ap (λ (y : ℕ). edge w b y / 2) (word-stays j l) ∙ e)
+  leads : (x : ℕ) → (j : ℕ) × (b : Bool) × (j < count) × (side w b (wordAt s j) / 2 ≡ x) → (j : ℕ) × (b : Bool) × (j < r) × (side w b (wordAt t j) / 2 ≡ x)
+  leads x (j, b, l, e) = (j, b, omega (arith, l, up), ap (λ (y : ℕ). side w b y / 2) (word-stays j l) ∙ e)
 
   pub met-next : Met w t P i r root
   met-next = record {
@@ -135,8 +136,8 @@ module _ (w : Words) (s t : List ℕ) (P i count root v r : ℕ) (M : Met w s P 
     nodes = by-word (λ k x. (0 < x) × (x < P) × (mark t P x ≡ 1)) (λ k l. let n = M .nodes k l in (n .0, n .1, mark-stays (wordAt s k) (n .1) (n .2))) (λ k a b. (new-is k a b .2, inside, X .marked));
     once = once;
     closed = λ b k l. let c = M .closed b k l in
-        subst (λ (x : ℕ). (edge w b x / 2 < P) × (mark t P (edge w b x / 2) ≡ 1)) (sym (word-stays k (omega (arith, M .up)))) (c .0, mark-stays (edge w b (wordAt s k) / 2) (c .0) (c .1));
-    named = by-word (λ k x. (x ≡ root → ⊥) → (j : ℕ) × (b : Bool) × (j < r) × (edge w b (wordAt t j) / 2 ≡ x)) (λ k l n. leads (wordAt s k) (M .named k l n)) (λ k a b n. leads v (why n));
+        subst (λ (x : ℕ). (side w b x / 2 < P) × (mark t P (side w b x / 2) ≡ 1)) (sym (word-stays k (omega (arith, M .up)))) (c .0, mark-stays (side w b (wordAt s k) / 2) (c .0) (c .1));
+    named = by-word (λ k x. (x ≡ root → ⊥) → (j : ℕ) × (b : Bool) × (j < r) × (side w b (wordAt t j) / 2 ≡ x)) (λ k l n. leads (wordAt s k) (M .named k l n)) (λ k a b n. leads v (why n));
   }
 
   pub met-marked : mark t P v ≡ 1
@@ -150,7 +151,7 @@ module _ (w : Words) (s t : List ℕ) (P i count root v r : ℕ) (M : Met w s P 
 
 -- one more node is done: the nodes of its edges are met
 pub met-done : (w : Words) (s : List ℕ) (P i count root : ℕ) → Met w s P i count root → i < count
-    → ((b : Bool) → (edge w b (wordAt s i) / 2 < P) × (mark s P (edge w b (wordAt s i) / 2) ≡ 1)) → Met w s P (i + 1) count root
+    → ((b : Bool) → (side w b (wordAt s i) / 2 < P) × (mark s P (side w b (wordAt s i) / 2) ≡ 1)) → Met w s P (i + 1) count root
 met-done w s P i count root M l f = record {
   up = omega arith;
   sink = M .sink;

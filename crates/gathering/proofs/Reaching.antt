@@ -9,7 +9,8 @@ use lib.ListN.{length}
 use Rattle.words.specs.Words.{wordAt}
 use Rattle.words.proofs.Cases.{less, same, more, tri}
 use Rattle.diagram.specs.Format.{Words, height}
-use Rattle.gathering.specs.Inner.{LooseWithin, laid, edge, NamedBy, Reached, mark, MarksStay, AllMet, IsNode, AllLaid, Laid}
+use Rattle.diagram.specs.Reading.{side}
+use Rattle.gathering.specs.Inner.{LooseWithin, laid, NamedBy, Reached, mark, MarksStay, AllMet, IsNode, AllLaid, Laid}
 use Rattle.gathering.proofs.Meeting.{edge-inside, node-tall}
 
 -- none is laid yet
@@ -66,7 +67,7 @@ module _ (t : List ℕ) (P root : ℕ) (I : LooseWithin t P root) (inside : root
   marked-laid : (v : ℕ) → v < P → 0 < v → mark s P v ≡ 1 → 0 < laid W P v
   marked-laid v l p m = omega (arith, L .nodes v l .some p (omega arith) .0, node-tall t P root I v p l)
 
-  fields : (v : ℕ) → v < P → 0 < laid W P v → (laid W P v ≡ height w v) × ((b : Bool) → cond b (W (P + v)) (W (3 * P + v)) ≡ edge w b v)
+  fields : (v : ℕ) → v < P → 0 < laid W P v → (laid W P v ≡ height w v) × ((b : Bool) → cond b (W (P + v)) (W (3 * P + v)) ≡ side w b v)
   fields v l p =
       let m = laid-marked v l p in
       let f = L .nodes v l .some (m .0) (omega (arith, m .1)) in
@@ -87,11 +88,11 @@ module _ (t : List ℕ) (P root : ℕ) (I : LooseWithin t P root) (inside : root
   met-at : (v : ℕ) → v < P → 0 < laid W P v → (k : ℕ) × (k < A .count) × (wordAt s k ≡ v)
   met-at v l p = let m = laid-marked v l p in A .met .listed v l (m .0) (m .1)
 
-  closed : (b : Bool) (v : ℕ) → v < P → 0 < laid W P v → 0 < edge w b v / 2 → 0 < laid W P (edge w b v / 2)
+  closed : (b : Bool) (v : ℕ) → v < P → 0 < laid W P v → 0 < side w b v / 2 → 0 < laid W P (side w b v / 2)
   closed b v l p q =
       let k = met-at v l p in
-      let c = subst (λ (x : ℕ). (edge w b x / 2 < P) × (mark s P (edge w b x / 2) ≡ 1)) (k .2) (A .met .closed b (k .0) (k .1)) in
-      marked-laid (edge w b v / 2) (c .0) q (c .1)
+      let c = subst (λ (x : ℕ). (side w b x / 2 < P) × (mark s P (side w b x / 2) ≡ 1)) (k .2) (A .met .closed b (k .0) (k .1)) in
+      marked-laid (side w b v / 2) (c .0) q (c .1)
 
   named : (u : ℕ) → u < P → 0 < laid W P u → (u ≡ root → ⊥) → NamedBy w W P u
   named u l p n =

@@ -8,6 +8,7 @@ use lib.ListN.{length, getD}
 use Rattle.words.specs.Words.{wordAt}
 use Rattle.diagram.specs.Format.{Words, height, thenEdge, elseEdge}
 use Rattle.diagram.specs.Ordered.{LooseRecords}
+use Rattle.diagram.specs.Reading.{side}
 
 -- node v lies in a loose diagram that the bytes hold; a region has a place for each of its nodes
 pub record LooseWithin (bytes : List ℕ) (P v : ℕ) : Type 0 where
@@ -22,22 +23,18 @@ pub record LooseWithin (bytes : List ℕ) (P v : ℕ) : Type 0 where
 abbrev pub laid : (ℕ → ℕ) → ℕ → ℕ → ℕ
 laid W P v = W (2 * P + v)
 
--- an edge of node v by its side
-abbrev pub edge : Words → Bool → ℕ → ℕ
-edge w b v = cond b (thenEdge w v) (elseEdge w v)
-
 -- node v is named by an edge of a node that lies in the sheet
 abbrev pub NamedBy : Words → (ℕ → ℕ) → ℕ → ℕ → Type 0
-NamedBy w W P v = (j : ℕ) × (b : Bool) × (j < P) × (0 < laid W P j) × (edge w b j / 2 ≡ v)
+NamedBy w W P v = (j : ℕ) × (b : Bool) × (j < P) × (0 < laid W P j) × (side w b j / 2 ≡ v)
 
 -- nodes of the diagram w lie in the sheet, with all that they lead to; the places of the others, and of the sink, are zero
 pub record Gathered (w : Words) (W : ℕ → ℕ) (P : ℕ) : Type 0 where
   pub sink : laid W P 0 ≡ 0
   pub free : (v : ℕ) → v < P → laid W P v ≡ 0 → W (P + v) ≡ 0
   pub height-is : (v : ℕ) → v < P → 0 < laid W P v → laid W P v ≡ height w v
-  pub edge-is : (b : Bool) (v : ℕ) → v < P → 0 < laid W P v → cond b (W (P + v)) (W (3 * P + v)) ≡ edge w b v
-  pub inside : (b : Bool) (v : ℕ) → v < P → 0 < laid W P v → edge w b v / 2 < P
-  pub closed : (b : Bool) (v : ℕ) → v < P → 0 < laid W P v → 0 < edge w b v / 2 → 0 < laid W P (edge w b v / 2)
+  pub edge-is : (b : Bool) (v : ℕ) → v < P → 0 < laid W P v → cond b (W (P + v)) (W (3 * P + v)) ≡ side w b v
+  pub inside : (b : Bool) (v : ℕ) → v < P → 0 < laid W P v → side w b v / 2 < P
+  pub closed : (b : Bool) (v : ℕ) → v < P → 0 < laid W P v → 0 < side w b v / 2 → 0 < laid W P (side w b v / 2)
 
 -- node v and what it leads to lie there, and nothing else
 pub record Reached (w : Words) (W : ℕ → ℕ) (P v : ℕ) : Type 0 where
@@ -70,8 +67,8 @@ pub record Met (w : Words) (s : List ℕ) (P i count root : ℕ) : Type 0 where
   pub listed : (v : ℕ) → v < P → 0 < v → mark s P v ≡ 1 → (k : ℕ) × (k < count) × (wordAt s k ≡ v)
   pub nodes : (k : ℕ) → k < count → (0 < wordAt s k) × (wordAt s k < P) × (mark s P (wordAt s k) ≡ 1)
   pub once : (j k : ℕ) → j < count → k < count → wordAt s j ≡ wordAt s k → j ≡ k
-  pub closed : (b : Bool) (k : ℕ) → k < i → (edge w b (wordAt s k) / 2 < P) × (mark s P (edge w b (wordAt s k) / 2) ≡ 1)
-  pub named : (k : ℕ) → k < count → (wordAt s k ≡ root → ⊥) → (j : ℕ) × (b : Bool) × (j < count) × (edge w b (wordAt s j) / 2 ≡ wordAt s k)
+  pub closed : (b : Bool) (k : ℕ) → k < i → (side w b (wordAt s k) / 2 < P) × (mark s P (side w b (wordAt s k) / 2) ≡ 1)
+  pub named : (k : ℕ) → k < count → (wordAt s k ≡ root → ⊥) → (j : ℕ) × (b : Bool) × (j < count) × (side w b (wordAt s j) / 2 ≡ wordAt s k)
 
 -- all that `root` leads to is met
 pub record AllMet (w : Words) (s : List ℕ) (P root : ℕ) : Type 0 where

@@ -22,7 +22,7 @@ use Rattle.division.specs.Operations.{noPart}
 use Rattle.tables.specs.Table.{tableOf}
 use Rattle.tables.specs.Writing.{fitted, lengthOf}
 use Rattle.tables.proofs.TableLaws.{tableOf-some}
-use Rattle.tables.proofs.WritingLaws.{answer-value, answer-refusal}
+use Rattle.tables.proofs.HandingOut.{answer-value, answer-refusal}
 use Rattle.parts.specs.Operations.{needed, partOf, partWriting, partWritingFor, Promise}
 use Rattle.parts.proofs.Promised.{written-part}
 

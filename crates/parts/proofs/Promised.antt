@@ -1,7 +1,6 @@
 -- What a call that keeps part-write's promise comes to, on an accepted table. Assumes nothing.
 use Prim.Native.Nat.{ℕ, _/_, _≤_, _<_}
 use mathlib.Core.Path.{_≡_, refl, sym, ap, _∙_}
-use mathlib.Core.Bool.{Bool, true, false, cond}
 use mathlib.Core.List.{List}
 use mathlib.Core.Option.{some}
 use native.Mathlib.Omega.{arith}
@@ -12,10 +11,10 @@ use Rattle.words.specs.Words.{wordAt}
 use Rattle.words.proofs.Cases.{passed}
 use Rattle.diagram.specs.Format.{settings}
 use Rattle.diagram.specs.Meaning.{permitted}
-use Rattle.diagram.specs.Answer.{Answer, value, refusal, andThen}
+use Rattle.diagram.specs.Answer.{Answer, value, refusal}
 use Rattle.diagram.specs.Rules.{Accepts}
 use Rattle.diagram.specs.Ordered.{Accepted}
-use Rattle.diagram.proofs.AnswerLaws.{refused-not, then-some}
+use Rattle.diagram.proofs.AnswerLaws.{refused-not, then-some, then-unless}
 use Rattle.diagram.proofs.Accept.{accepts-accepted, accepted-lent}
 use Rattle.checking.specs.Operations.{checkingFor}
 use Rattle.division.specs.Span.{inPart}
@@ -24,7 +23,7 @@ use Rattle.division.proofs.Sharing.{none-index}
 use Rattle.tables.specs.Table.{tableOf}
 use Rattle.tables.specs.Writing.{lengthOf, outAfter, HandsOut}
 use Rattle.tables.proofs.Writes.{fitted-some}
-use Rattle.tables.proofs.WritingLaws.{answer-refusal, handed-out}
+use Rattle.tables.proofs.HandingOut.{answer-refusal, handed-out}
 use Rattle.parts.specs.Operations.{needed, partOf, partWriting, partWritingFor, Promise}
 use Rattle.parts.specs.Calls.{Call, Kept}
 use Rattle.parts.specs.Division.{due}
@@ -45,14 +44,10 @@ module _ (table : List ℕ) (n N k : ℕ) (ok : Accepts table n N) (parts : 0 < 
 
   -- part-write answers what is due
   pub due-is : (c : Call) → partWriting table k (c .index) (c .sheet) (length (c .out)) ≡ due table n N k c
-  unfolding partWritingFor checkingFor partOf due andThen
+  unfolding partWritingFor checkingFor partOf due
   due-is c =
       rw (accepted-lent table (length (c .sheet) / 8) needed n N A, ← (none-index k (c .index) (λ e. omega arith) few), A .has-settings)
-      (go (ltb (length (c .sheet) / 8) (needed N)) _)
-    where
-      go : (b : Bool) (x : Answer (List ℕ)) → andThen {A = ℕ × ℕ} (cond b (refusal 10 0) (value (n, N))) (λ _. x) ≡ cond b (refusal 10 0) x
-      go true x = refl
-      go false x = refl
+      (then-unless (ltb (length (c .sheet) / 8) (needed N)) 10 0 (n, N) _)
 
   module _ (c : Call) (K : Kept table k c) where
     answer-is : c .answer ≡ lengthOf (due table n N k c)

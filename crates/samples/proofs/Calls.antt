@@ -8,7 +8,7 @@ use Rattle.words.specs.Words.{bytesOf}
 use Rattle.words.proofs.Laws.{length-bytesOf}
 use Rattle.diagram.specs.Answer.{Answer, value, refusal}
 use Rattle.tables.specs.Writing.{lengthOf, outAfter}
-use Rattle.tables.proofs.WritingLaws.{front-written}
+use Rattle.tables.proofs.HandingOut.{front-written}
 use Rattle.parts.specs.Operations.{partWriting}
 use Rattle.parts.specs.Calls.{Call, Kept, Wrote}
 use Rattle.parts.specs.Division.{Division}

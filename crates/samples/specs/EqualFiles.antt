@@ -8,7 +8,7 @@ use Rattle.diagram.specs.Answer.{Answer, value, refusal}
 use Rattle.diagram.specs.Rules.{check, Accepts}
 use Rattle.samples.specs.Samples.{table, single, setups}
 
--- everything of one setting; with a record that nothing leads to, the last (rule 3); with a record of equal edges (rule 8)
+-- everything of one setting; the same with a last record that nothing leads to (rule 3), and by a record of equal edges (rule 8)
 unfoldable pub always : List ℕ
 always = table 0 0x0400000000000000
 
@@ -18,28 +18,28 @@ leftOver = table 1 0x0400000020000000_0400000000000001
 unfoldable pub idle : List ℕ
 idle = table 1 0x0400000020000002_0400000000000000
 
--- nothing of one setting; by a record that tests a setting before the first (rule 4)
+-- nothing of one setting; the same by a record that tests a setting before the first (rule 4)
 unfoldable pub never : List ℕ
 never = table 0 0x0400000000000001
 
 unfoldable pub tooTall : List ℕ
 tooTall = table 1 0x0400000020000002_0800000000000001
 
--- the one setting is on; by a flagged then-edge (rule 7)
+-- the one setting is on; the same by a flagged then-edge (rule 7)
 unfoldable pub on : List ℕ
 on = table 1 0x0400000020000002_0400000000000001
 
 unfoldable pub turned : List ℕ
 turned = table 1 0x0400000020000003_0400000020000000
 
--- setting 2, or setting 3 where setting 1 is off; its first two records exchanged (rule 5)
+-- setting 2 where setting 1 is on, setting 3 where it is off; with its first two records exchanged (rule 5)
 unfoldable pub chosen : List ℕ
 chosen = table 3 0x0C00000060000006_0400000000000001_0800000000000001_0C00000080000002
 
 unfoldable pub exchanged : List ℕ
 exchanged = table 3 0x0C00000060000006_0800000000000001_0400000000000001_0C00000040000004
 
--- the first of two settings is on; with a record that nothing leads to (rule 9)
+-- the first of two settings is on; the same with another record, that nothing leads to (rule 9)
 unfoldable pub firstOn : List ℕ
 firstOn = table 1 0x0800000020000002_0800000000000001
 

@@ -3,4 +3,5 @@ pub mod EqualFiles
 pub mod TableFor
 pub mod TableLaws
 pub mod WritingLaws
+pub mod HandingOut
 pub mod Writes

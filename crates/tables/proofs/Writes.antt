@@ -59,24 +59,26 @@ unfolding fitted
 fitted-some room none bytes e = absurd (refused-not e)
 fitted-some room (some b) bytes e = ap some (value-inj (passed (ltb room (length b)) refused-not e .1))
 
+-- a table that there is is refused by 11 alone
+pub only-eleven : {A : Type 0} (c : Bool) (a : A) {number place : ℕ} → cond c (refusal 11 0) (value a) ≡ refusal number place → number ≡ 11
+only-eleven true a e = cc
+only-eleven false a e = absurd (refused-not (sym e))
+
 -- no other refusals are answered than 16 and 11
 pub fitted-refusal : (room : ℕ) (o : Option (List ℕ)) (number place : ℕ) → fitted room o ≡ refusal number place → (number ≡ 16) ⊎ (number ≡ 11)
 unfolding fitted
 fitted-refusal room none number place e = inl cc
-fitted-refusal room (some bytes) number place e = go (ltb room (length bytes)) e
-  where
-    go : (c : Bool) → cond c (refusal 11 0) (value bytes) ≡ refusal number place → (number ≡ 16) ⊎ (number ≡ 11)
-    go true q = inr cc
-    go false q = absurd (refused-not (sym q))
+fitted-refusal room (some bytes) number place e = inr (only-eleven (ltb room (length bytes)) bytes e)
 
 -- 16 is answered exactly where no bytes are an accepted table that permits the set
 pub sixteen : (room n : ℕ) (P : ℕ → Bool) → (fitted room (tableOf n P) ≡ refusal 16 0) ↔ ((t : List ℕ) → Bytes t → isTable n P t ≡ true → ⊥)
 unfolding fitted
-sixteen room n P = (λ e t b i. let T = is-table-for n P t i in go t (ltb room (length t)) (sym (ap (fitted room) (tableOf-is n P t (T .0) b (T .1))) ∙ e), then-none (tableOf n P) refl)
+sixteen room n P = (found, then-none (tableOf n P) refl)
   where
-    go : (t : List ℕ) (c : Bool) → cond c (refusal 11 0) (value t) ≡ refusal 16 0 → ⊥
-    go t true q = let z : _≡_ {A = ℕ} 11 16 = cc in omega arith
-    go t false q = refused-not (sym q)
+    found : fitted room (tableOf n P) ≡ refusal 16 0 → (t : List ℕ) → Bytes t → isTable n P t ≡ true → ⊥
+    found e t b i =
+        let T = is-table-for n P t i in
+        omega (arith, only-eleven (ltb room (length t)) t (sym (ap (fitted room) (tableOf-is n P t (T .0) b (T .1))) ∙ e))
 
     then-none : (o : Option (List ℕ)) → tableOf n P ≡ o → ((t : List ℕ) → Bytes t → isTable n P t ≡ true → ⊥) → fitted room (tableOf n P) ≡ refusal 16 0
     then-none none e f = rw e

@@ -2,28 +2,26 @@
 use Prim.Native.Nat.{ℕ, zero, suc, _+_, _*_, _/_, _^_, _≤_, _<_}
 use mathlib.Core.Path.{_≡_, refl, sym, ap, _∙_}
 use mathlib.Core.Bool.{Bool, false}
-use mathlib.Core.List.{List, _++_}
+use mathlib.Core.List.{List}
 use mathlib.Core.Option.{some}
 use native.Mathlib.Omega.{arith}
 use native.Mathlib.Nat.{le-refl}
-use lib.ListN.{length, drop, length-append}
-use lib.Seq.{take-append-seam}
-use borrow.Author.Tests.{lt-ltb, le-ltb, le-leb}
+use lib.ListN.{length}
+use borrow.Author.Tests.{lt-ltb, le-ltb}
 use Rattle.words.specs.Words.{Bytes, wordAt, bytesOf, wordsBytes}
 use Rattle.words.proofs.Laws.{length-bytesOf, length-wordsBytes}
 use Rattle.words.proofs.Bytes.{bytes-bytesOf, word-bytesOf, bytes-words, word-of-run}
 use Rattle.diagram.specs.Format.{Words, highField, middleField, lowField, settings, nodes, root, height}
 use Rattle.diagram.specs.Meaning.{under, permitted}
-use Rattle.diagram.specs.Answer.{Answer, value, refusal}
+use Rattle.diagram.specs.Answer.{value, refusal}
 use Rattle.diagram.specs.Ordered.{Proper, Accepted}
 use Rattle.diagram.specs.Reading.{recordOf}
-use Rattle.diagram.proofs.AnswerLaws.{refused-not, value-inj}
 use Rattle.diagram.proofs.Paths.{under-never}
 use Rattle.diagram.proofs.Accept.{accepted-accepts}
 use Rattle.diagram.proofs.Agree.{agree-under, proper-agree}
 use Rattle.diagram.proofs.Fields.{record-high, record-middle, record-low}
 use Rattle.tables.specs.Table.{nodeCount, tableOf}
-use Rattle.tables.specs.Writing.{fitted, lengthOf, outAfter, frontOf, HandsOut}
+use Rattle.tables.specs.Writing.{fitted}
 use Rattle.tables.proofs.TableFor.{TableFor}
 use Rattle.tables.proofs.TableLaws.{nodeCount-is, tableOf-is, tableOf-none}
 
@@ -134,34 +132,3 @@ empty-table n P few none =
     let w : Words = λ k. 0 in
     records-table n P w 0 1 (no-nodes w n) refl (λ x l. under-never w x ∙ sym (none x l)) (omega arith) (bytesOf 8 v) (bytes-bytesOf 8 v) (length-bytesOf 8 v)
     (word-bytesOf v (omega arith) ∙ omega arith) (λ i l. absurd (omega arith))
-
--- a written table is read back
-pub front-written : (bytes out : List ℕ) → frontOf (length bytes) (outAfter (value bytes) out) ≡ bytes
-unfolding frontOf outAfter
-front-written bytes out =
-    let d = drop (length bytes) out in
-    rw (le-leb (length bytes) (length (bytes ++ d)) (omega (arith, length-append bytes d))) (take-append-seam bytes d)
-
--- an answer in bytes, taken apart
-pub answer-value : (a : Answer (List ℕ)) (m : ℕ) → lengthOf a ≡ value m → (bytes : List ℕ) × (a ≡ value bytes) × (length bytes ≡ m)
-unfolding lengthOf
-answer-value (value b) m e = (b, refl, value-inj e)
-answer-value (refusal r p) m e = absurd (refused-not e)
-
-pub answer-refusal : (a : Answer (List ℕ)) (number place : ℕ) → lengthOf a ≡ refusal number place → a ≡ refusal number place
-unfolding lengthOf
-answer-refusal (value b) number place e = absurd (refused-not (sym e))
-answer-refusal (refusal r p) number place e = let i : r ≡ number = cc in let j : p ≡ place = cc in rw (i, j)
-
--- a call that answers the length of what it is to write, and writes it
-module _ (a : Answer (List ℕ)) (out : List ℕ) (answer : Answer ℕ) (out′ : List ℕ) (answers : answer ≡ lengthOf a) (writes : out′ ≡ outAfter a out) where
-  -- answers the number of these bytes, and the front of so many is they
-  pub front-is : (bytes : List ℕ) → a ≡ value bytes → (answer ≡ value (length bytes)) × (frontOf (length bytes) out′ ≡ bytes)
-  unfolding lengthOf
-  front-is bytes e = (answers ∙ ap lengthOf e, ap (frontOf (length bytes)) (writes ∙ ap (λ (b : Answer (List ℕ)). outAfter b out) e) ∙ front-written bytes out)
-
-  -- and hands out nothing else
-  pub handed-out : (bytes : List ℕ) → HandsOut answer out′ bytes → a ≡ value bytes
-  handed-out bytes h =
-      let b = answer-value a (h .count) (sym answers ∙ h .answered) in
-      b .1 ∙ ap value (sym (h .read ∙ ap (λ (m : ℕ). frontOf m out′) (sym (b .2)) ∙ front-is (b .0) (b .1) .1))

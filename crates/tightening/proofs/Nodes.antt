@@ -13,13 +13,13 @@ use Rattle.diagram.specs.Format.{Words, root, height}
 use Rattle.diagram.specs.Meaning.{bit, branch, flip, holds, plain, under, permitted}
 use Rattle.diagram.specs.Answer.{Answer}
 use Rattle.diagram.specs.Ordered.{LooseRecords}
-use Rattle.diagram.specs.Reading.{IsHeader}
+use Rattle.diagram.specs.Reading.{IsHeader, side}
 use Rattle.diagram.proofs.Paths.{loose-height, loose-step}
 use Rattle.reducing.specs.Levels.{Loose, Named, Means}
 use Rattle.reducing.specs.Inner.{heightOf, edgeOf, resultOf}
 use Rattle.tables.proofs.Writes.{writes-same, same-count}
 use Rattle.compiling.specs.Inner.{HoldsDiagram, along, WritesRoot}
-use Rattle.gathering.specs.Inner.{LooseWithin, laid, edge, Reached}
+use Rattle.gathering.specs.Inner.{LooseWithin, laid, Reached}
 use Rattle.loose.specs.Inner.{Loosely}
 use Rattle.tightening.specs.Inner.{Tightens}
 
@@ -31,7 +31,7 @@ module _ (w : Words) (n N : ℕ) (D : LooseRecords w n N) (sheet : List ℕ) (v 
   W = wordAt sheet
 
   -- a node that lies there is none but one of the table's records
-  lower : (b : Bool) (i : ℕ) → i < P → 0 < laid W P i → height w (edge w b i / 2) < height w i
+  lower : (b : Bool) (i : ℕ) → i < P → 0 < laid W P i → height w (side w b i / 2) < height w i
   lower b zero l t = absurd (omega (arith, R .gathered .sink))
   lower b (suc i) l t = loose-height w n N D b i (omega arith)
 
@@ -47,9 +47,9 @@ module _ (w : Words) (n N : ℕ) (D : LooseRecords w n N) (sheet : List ℕ) (v 
       go (suc i) l t e = omega (arith, D .low i (omega arith))
 
   -- the node of an edge is no higher in the sheet than in the table
-  child-low : (b : Bool) (i : ℕ) → i < P → 0 < laid W P i → laid W P (edge w b i / 2) ≤ height w (edge w b i / 2)
+  child-low : (b : Bool) (i : ℕ) → i < P → 0 < laid W P i → laid W P (side w b i / 2) ≤ height w (side w b i / 2)
   child-low b i l t =
-      let c = edge w b i / 2 in
+      let c = side w b i / 2 in
       elim (tri 0 (laid W P c)) [ less q ↦ omega (arith, R .gathered .height-is c (R .gathered .inside b i l t) q) | same q ↦ omega arith | more q ↦ absurd (omega arith) ]
 
   pub nodes-loose : Loose (heightOf W P) (edgeOf W P) n P
@@ -95,7 +95,7 @@ module _ (w : Words) (n N : ℕ) (D : LooseRecords w n N) (sheet : List ℕ) (v 
   unfolding under branch flip
   nodes-mean = record {
     sink = λ i l z x. rw (z, R .gathered .free i l z);
-    step = λ i l t x. let c = bit (height w i) x in let e = edge w c i in
+    step = λ i l t x. let c = bit (height w i) x in let e = side w c i in
         there i x (λ _. t) ∙ step i l t x
         ∙ ap (flip (e % 2)) (sym (there (e / 2) x (R .gathered .closed c i l t)))
         ∙ rw (R .gathered .height-is i l t, R .gathered .edge-is c i l t);

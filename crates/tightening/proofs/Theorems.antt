@@ -10,11 +10,12 @@ use lib.Dec.{ltb}
 use lib.ListN.{length}
 use borrow.Author.Tests.{ne-eqb}
 use Rattle.words.specs.Words.{Bytes, wordAt, wordsOver}
+use Rattle.words.proofs.Cases.{passed}
 use Rattle.diagram.specs.Format.{settings, nodes}
 use Rattle.diagram.specs.Meaning.{permitted}
 use Rattle.diagram.specs.Answer.{Answer, value, refusal, andThen}
 use Rattle.diagram.specs.Rules.{checkHeaderOf, Accepts}
-use Rattle.diagram.proofs.AnswerLaws.{refused-not, value-inj, then-some}
+use Rattle.diagram.proofs.AnswerLaws.{refused-not, value-inj, then-some, then-unless}
 use Rattle.diagram.proofs.Accept.{accepts-accepted}
 use Rattle.diagram.proofs.Refusals.{Refuses, then-refuses, passes, Early, early-low, header-refuses}
 use Rattle.loose.specs.Rules.{checkLooseRecords, checkLoose, IsLoose}
@@ -25,8 +26,8 @@ use Rattle.tables.specs.Table.{tableOf}
 use Rattle.tables.specs.Writing.{fitted, lengthOf, frontOf, HandsOut}
 use Rattle.tables.proofs.TableFor.{TableFor}
 use Rattle.tables.proofs.TableLaws.{nodeCount-some, tableOf-is, tableOf-some, tableOf-long, accepted-table}
-use Rattle.tables.proofs.Writes.{fitted-some}
-use Rattle.tables.proofs.WritingLaws.{front-is, handed-out}
+use Rattle.tables.proofs.Writes.{fitted-some, only-eleven}
+use Rattle.tables.proofs.HandingOut.{front-is, handed-out}
 use Rattle.tightening.specs.Operations.{needed, checkingLoose, makingProper, sheetAfter, Promise}
 
 module _ (t s : List ℕ) (room : ℕ) where
@@ -53,14 +54,10 @@ module _ (t s : List ℕ) (room : ℕ) where
 -- a loose table is served, whatever it holds: refused by 10, or the table of its setups, where there is room for it
 pub loose-served : (t s : List ℕ) (room n N : ℕ) → IsLoose t n N
     → makingProper t s room ≡ cond (ltb (length s / 8) (needed N)) (refusal 10 0) (fitted room (tableOf n (permitted (wordAt t))))
-unfolding makingProper checkingLoose andThen
+unfolding makingProper checkingLoose
 loose-served t s room n N e =
     let L = check-loosely t 0 (λ _. 0) n N e .0 in
-    rw (loosely-lent t (length s / 8) needed n N L, L .has-settings) (go (ltb (length s / 8) (needed N)) (fitted room (tableOf n (permitted (wordAt t)))))
-  where
-    go : (few : Bool) (a : Answer (List ℕ)) → andThen {A = ℕ × ℕ} (cond few (refusal 10 0) (value (n, N))) (λ _. a) ≡ cond few (refusal 10 0) a
-    go true a = refl
-    go false a = refl
+    rw (loosely-lent t (length s / 8) needed n N L, L .has-settings) (then-unless (ltb (length s / 8) (needed N)) 10 0 (n, N) (λ _. fitted room (tableOf n (permitted (wordAt t)))))
 
 -- a table is loose
 pub accepts-loose : (t : List ℕ) (n N : ℕ) → Accepts t n N → IsLoose t n N
@@ -102,44 +99,41 @@ module _ (t s out : List ℕ) (answer : Answer ℕ) (s′ out′ : List ℕ) (P 
       let a = tableOf-is (v .0) q (m .0) (c .0) (m .1) (m .2) in
       (m .0, rw (L .has-settings) a, omega (arith, tableOf-long (v .0) q (m .0) (c .0) a (c .2), c .1, L .long))
 
-  -- so what is answered is that table's length, or 11, or a refusal of the loose table's own rules
-  pub answered : ((number : ℕ) × (place : ℕ) × (checkingLoose t s ≡ refusal number place) × (answer ≡ refusal number place))
-      ⊎ ((bytes : List ℕ) × (tableOf (settings (wordAt t)) (permitted (wordAt t)) ≡ some bytes) × (length bytes ≤ length t) × (answer ≡ cond (ltb (length out) (length bytes)) (refusal 11 0) (value (length bytes))))
+  -- so what is answered is a refusal of the loose table's own rules
+  abbrev Refused : Type 0
+  Refused = (number : ℕ) × (place : ℕ) × (checkingLoose t s ≡ refusal number place) × (answer ≡ refusal number place)
+
+  -- ... or that table's length, or 11
+  abbrev Served : Type 0
+  Served = (bytes : List ℕ) × (tableOf (settings (wordAt t)) (permitted (wordAt t)) ≡ some bytes) × (length bytes ≤ length t) × (answer ≡ cond (ltb (length out) (length bytes)) (refusal 11 0) (value (length bytes)))
+
+  pub answered : Refused ⊎ Served
   unfolding makingProper lengthOf andThen fitted
   answered = go (checkingLoose t s) refl
     where
-      go : (a : Answer (ℕ × ℕ)) → checkingLoose t s ≡ a → ((number : ℕ) × (place : ℕ) × (checkingLoose t s ≡ refusal number place) × (answer ≡ refusal number place))
-          ⊎ ((bytes : List ℕ) × (tableOf (settings (wordAt t)) (permitted (wordAt t)) ≡ some bytes) × (length bytes ≤ length t) × (answer ≡ cond (ltb (length out) (length bytes)) (refusal 11 0) (value (length bytes))))
+      fits : (c : Bool) (bytes : List ℕ) → lengthOf (cond c (refusal 11 0) (value bytes)) ≡ cond c (refusal 11 0) (value (length bytes))
+      fits true bytes = refl
+      fits false bytes = refl
+
+      go : (a : Answer (ℕ × ℕ)) → checkingLoose t s ≡ a → Refused ⊎ Served
       go (refusal number place) e = inl (number, place, e, P .answers ∙ rw e)
       go (value v) e =
           let b = table-there v e in
           inr (b .0, b .1, b .2, P .answers ∙ rw (e, b .1) (fits (ltb (length out) (length (b .0))) (b .0)))
-        where
-          fits : (c : Bool) (bytes : List ℕ) → lengthOf (cond c (refusal 11 0) (value bytes)) ≡ cond c (refusal 11 0) (value (length bytes))
-          fits true bytes = refl
-          fits false bytes = refl
 
   -- 16 is never answered
   pub no-sixteen : (place : ℕ) → answer ≡ refusal 16 place → ⊥
   no-sixteen place e = elim answered [
     | inl (number, at, own, is) ↦ let i : number ≡ 16 = cc in omega (arith, own-low (own-refusals t s number at own) .1)
-    | inr (bytes, there, long, is) ↦ go (ltb (length out) (length bytes)) (length bytes) (sym is ∙ e)
+    | inr (bytes, there, long, is) ↦ omega (arith, only-eleven (ltb (length out) (length bytes)) (length bytes) (sym is ∙ e))
   ]
-    where
-      go : (c : Bool) (m : ℕ) → cond c (refusal 11 0) (value m) ≡ refusal 16 place → ⊥
-      go true m q = let z : _≡_ {A = ℕ} 11 16 = cc in omega arith
-      go false m q = refused-not (sym q)
 
   -- and the written table has no more nodes than the loose one
   pub no-longer : (m : ℕ) → answer ≡ value m → m ≤ length t
   no-longer m e = elim answered [
     | inl (number, at, own, is) ↦ absurd (refused-not (sym is ∙ e))
-    | inr (bytes, there, long, is) ↦ go (ltb (length out) (length bytes)) long (sym is ∙ e)
+    | inr (bytes, there, long, is) ↦ omega (arith, long, value-inj (passed (ltb (length out) (length bytes)) refused-not (sym is ∙ e) .1))
   ]
-    where
-      go : (c : Bool) {k : ℕ} → k ≤ length t → cond c (refusal 11 0) (value k) ≡ value m → m ≤ length t
-      go true l q = absurd (refused-not q)
-      go false l q = omega (arith, value-inj q)
 
   -- the table is handed out as a part is: the front of so many bytes is it
   pub written-front : (bytes : List ℕ) → makingProper t s (length out) ≡ value bytes → (answer ≡ value (length bytes)) × (frontOf (length bytes) out′ ≡ bytes)

@@ -6,7 +6,8 @@ use native.Mathlib.Omega.{arith}
 use borrow.Author.Needs.{needs}
 use lib.ListN.{length, set, length-set}
 use Rattle.words.specs.Words.{wordAt}
-use Rattle.gathering.specs.Inner.{edge, mark, Met}
+use Rattle.diagram.specs.Reading.{side}
+use Rattle.gathering.specs.Inner.{mark, Met}
 use Rattle.gathering.proofs.Meeting.{within-room, within-place, met-none, met-next, met-few, met-all}
 use Rattle.gathering.proofs.Turning.{turn-inside, turn-first, turn-done, turn-marks}
 use Rattle.gathering.proofs.reach.Statement.{statement}
@@ -84,17 +85,17 @@ turn-of c = c .before .before .before
 
 -- its edges are the node's
 edges : (c : tie.After-record-at Inv-loop μ-loop) → let head = turn-of c .before in let w = wordAt (entry head .args .table .now) in let u = wordAt (head .loop .sheet) (head .loop .i) in
-    (c .record-at .result .high .value ≡ edge w true u) × (c .record-at .result .low .value ≡ edge w false u)
+    (c .record-at .result .high .value ≡ side w true u) × (c .record-at .result .low .value ≡ side w false u)
 edges c =
     let head = turn-of c .before in
     let w = wordAt (entry head .args .table .now) in
     let e = c .before .word-at .ensures in
     let r = c .record-at .ensures in
-    (r .then-is ∙ ap (edge w true) e, r .else-is ∙ ap (edge w false) e)
+    (r .then-is ∙ ap (side w true) e, r .else-is ∙ ap (side w false) e)
 
 -- the nodes of its edges
 node-one : (c : tie.After-node Inv-loop μ-loop) → let record-at = c .before .before in let head = turn-of record-at .before in
-    c .node .result .0 ≡ edge (wordAt (entry head .args .table .now)) true (wordAt (head .loop .sheet) (head .loop .i)) / 2
+    c .node .result .0 ≡ side (wordAt (entry head .args .table .now)) true (wordAt (head .loop .sheet) (head .loop .i)) / 2
 node-one c = c .node .ensures ∙ ap (λ (e : ℕ). e / 2) (edges (c .before .before) .0)
 
 abbrev node-of : tie.After-meet2 Inv-loop μ-loop → tie.After-node Inv-loop μ-loop
@@ -104,7 +105,7 @@ abbrev record-of : tie.After-meet2 Inv-loop μ-loop → tie.After-record-at Inv-
 record-of c = node-of c .before .before
 
 node-two : (c : tie.After-node2 Inv-loop μ-loop) → let record-at = record-of (c .before .before .before .before) in let head = turn-of record-at .before in
-    c .node2 .result .0 ≡ edge (wordAt (entry head .args .table .now)) false (wordAt (head .loop .sheet) (head .loop .i)) / 2
+    c .node2 .result .0 ≡ side (wordAt (entry head .args .table .now)) false (wordAt (head .loop .sheet) (head .loop .i)) / 2
 node-two c = c .node2 .ensures ∙ ap (λ (e : ℕ). e / 2) (edges (record-of (c .before .before .before .before)) .1)
 
 meet-requires-2 : tie.Need-meet-requires-2 Inv-loop μ-loop
