@@ -34,7 +34,7 @@ module _ (w : Words) (n N : ℕ) (D : Ordered w n N) where
   plain-period : (k H x : ℕ) → k ≤ N → height w k ≤ H → plain w k (2 ^ H + x) ≡ plain w k x
   plain-period k H x m q = sym (plain-mod w n N D k H (2 ^ H + x) m q) ∙ ap (plain w k) (add-mod-left (2 ^ H) x) ∙ plain-mod w n N D k H x m q
 
-  under-period : (e H x : ℕ) → e / 2 ≤ N → height w (e / 2) ≤ H → under w e (2 ^ H + x) ≡ under w e x
+  pub under-period : (e H x : ℕ) → e / 2 ≤ N → height w (e / 2) ≤ H → under w e (2 ^ H + x) ≡ under w e x
   unfolding under
   under-period e H x m q = ap (flip (e % 2)) (plain-period (e / 2) H x m q)
 
@@ -48,10 +48,10 @@ module _ (w : Words) (n N : ℕ) (D : Ordered w n N) where
   place-share k m l = count-gap (plain w k) (height w k) 63 l (λ x. plain-period k (height w k) x m (le-refl (height w k)))
 
   -- the halves of a node, at the setups below its height
-  else-half : (k x : ℕ) → 0 < k → k ≤ N → x < 2 ^ (height w k - 1) → plain w k x ≡ under w (elseEdge w k) x
+  pub else-half : (k x : ℕ) → 0 < k → k ≤ N → x < 2 ^ (height w k - 1) → plain w k x ≡ under w (elseEdge w k) x
   else-half k x p m l = ap (plain w k) (sym (with-off (height w k) x l)) ∙ node-with w n N D false k x p m
 
-  then-half : (k x : ℕ) → 0 < k → k ≤ N → x < 2 ^ (height w k - 1) → plain w k (2 ^ (height w k - 1) + x) ≡ under w (thenEdge w k) x
+  pub then-half : (k x : ℕ) → 0 < k → k ≤ N → x < 2 ^ (height w k - 1) → plain w k (2 ^ (height w k - 1) + x) ≡ under w (thenEdge w k) x
   then-half k x p m l = ap (plain w k) (sym (with-on (height w k) x l)) ∙ node-with w n N D true k x p m
 
   -- below a bound y under a node: within its else-half, or past it

@@ -5,6 +5,7 @@ ghost use lib.ListN.{getD};
 ghost use Rattle.pascal.specs.Triangle.{triangle, binomial};
 
 mod table;
+
 use table::BINOMIALS;
 
 // Entry `at` of the table.

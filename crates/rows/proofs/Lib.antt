@@ -1,0 +1,6 @@
+-- The arithmetic of rows, and what rows stand for.
+pub mod Modular
+pub mod Expanding
+pub mod Standing
+pub mod Placing
+pub mod Entering

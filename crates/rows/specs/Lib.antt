@@ -1,0 +1,2 @@
+-- What is known of rows of coefficients.
+pub mod Inner
