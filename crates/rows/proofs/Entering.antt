@@ -43,8 +43,8 @@ edge-stands t s m k R e H l low =
     (turned (e % 2) (rowOf s m (e / 2))) m (turned-fits (e % 2) (rowOf s m (e / 2)) fits)
     (flagged (plain w (e / 2)) (rowOf s m (e / 2)) m (height w (e / 2)) fits (R .stand (e / 2) l) (e % 2))
 
--- node k, with its record, where the rows below it stand: its row is entered in s′
-module _ (t s s′ : List ℕ) (m k h a b : ℕ) (p : 0 < k) (R : Next t s m k) (r : IsRecord (wordAt t) k h a b) where
+-- node k, with its record, where the rows below it stand
+module _ (t s : List ℕ) (m k h a b : ℕ) (p : 0 < k) (R : Next t s m k) (r : IsRecord (wordAt t) k h a b) where
   abbrev w : Words
   w = wordAt t
 
@@ -54,20 +54,20 @@ module _ (t s s′ : List ℕ) (m k h a b : ℕ) (p : 0 < k) (R : Next t s m k) 
   low-is : Lower w k b
   low-is = low-lower t k h a b p (R .within) r
 
-  -- the rows of its edges lie before its own
-  pub high-before : (m + 1) * (a / 2) + (m + 1) ≤ (m + 1) * k
-  high-before = row-below m (a / 2) k (high-is .node)
+  -- the rows of its edges, to nodes v, lie before its own
+  pub high-before : (v : ℕ) → v ≡ a / 2 → (m + 1) * v + (m + 1) ≤ (m + 1) * k
+  high-before v e = row-below m v k (omega (arith, high-is .node))
 
-  pub low-before : (m + 1) * (b / 2) + (m + 1) ≤ (m + 1) * k
-  low-before = row-below m (b / 2) k (low-is .node)
+  pub low-before : (v : ℕ) → v ≡ b / 2 → (m + 1) * v + (m + 1) ≤ (m + 1) * k
+  low-before v e = row-below m v k (omega (arith, low-is .node))
 
   then-plain : a % 2 ≡ 0
   then-plain = ap (λ (e : ℕ). e % 2) (r .then-is) ∙ R .plain-then
 
   -- its row stands for it where it is made of them
-  stands : Mixed (rowOf s′ m k) (rowOf s m (a / 2)) (turned (b % 2) (rowOf s m (b / 2))) m → Stands (plain w k) (rowOf s′ m k) m (height w k)
+  stands : (s′ : List ℕ) → Mixed (rowOf s′ m k) (rowOf s m (a / 2)) (turned (b % 2) (rowOf s m (b / 2))) m → Stands (plain w k) (rowOf s′ m k) m (height w k)
   unfolding turned
-  stands M =
+  stands s′ M =
       let W = R .within in
       let D = W .holds .ordered in
       let q : suc (height w k - 1) ≡ height w k = omega (arith, tall-node w (W .settings) (W .nodes) D k p (W .inside)) in
@@ -80,60 +80,60 @@ module _ (t s s′ : List ℕ) (m k h a b : ℕ) (p : 0 < k) (R : Next t s m k) 
       (λ x l. then-half w (W .settings) (W .nodes) D k x p (W .inside) l ∙ ap (λ (e : ℕ). under w e x) (sym (r .then-is)))
       (rowOf s′ m k) (rowOf s m (a / 2)) (turned (b % 2) (rowOf s m (b / 2))) m M A Z)
 
-  -- v is stored as the first entry, and the others are mixed behind it
-  module _ (s₁ : List ℕ) (v first : ℕ) (is : s₁ ≡ putWord s ((m + 1) * k) (swap v)) (v-fits : v < 18446744073709551616)
-      (first-fits : first < 18446744073709551616) (first-is : swap first ≡ wordAt s ((m + 1) * (b / 2))) where
+  -- r₀ is stored as the first entry, and the others are mixed behind it, of the rows of nodes u and v
+  module _ (s₁ s′ : List ℕ) (r₀ first u v : ℕ) (u-is : u ≡ a / 2) (v-is : v ≡ b / 2) (is : s₁ ≡ putWord s ((m + 1) * k) (swap r₀)) (r₀-fits : r₀ < 18446744073709551616)
+      (first-fits : first < 18446744073709551616) (first-is : swap first ≡ wordAt s ((m + 1) * v)) where
     abbrev to : ℕ
     to = (m + 1) * k
 
     abbrev low : ℕ
-    low = (m + 1) * (b / 2)
+    low = (m + 1) * v
 
     abbrev high : ℕ
-    high = (m + 1) * (a / 2)
+    high = (m + 1) * u
 
     long : 8 * to + 8 ≤ length s
     long = omega (arith, R .room)
 
     -- what lies before it is as it was
     kept : (q i : ℕ) → q + i < to → from s₁ q i ≡ from s q i
-    kept q i l = from-stays s s₁ q i (q + i) (store-other s s₁ to v long is (q + i) (λ e. omega arith)) refl
+    kept q i l = from-stays s s₁ q i (q + i) (store-other s s₁ to r₀ long is (q + i) (λ e. omega arith)) refl
 
     low-first : first ≡ from s low 0
     low-first = loaded s low 0 first first-fits (first-is ∙ ap (wordAt s) (omega arith))
 
     module _ (plus minus : ℕ) (M : Mixes s₁ s′ (to + 1) high plus minus m) where
-      row-first : rowOf s′ m k 0 ≡ v
-      row-first = from-stays s₁ s′ to 0 to (M .before to (omega arith)) (omega arith) ∙ store-here s s₁ to v long is to 0 (omega arith) v-fits
+      row-first : rowOf s′ m k 0 ≡ r₀
+      row-first = from-stays s₁ s′ to 0 to (M .before to (omega arith)) (omega arith) ∙ store-here s s₁ to r₀ long is to 0 (omega arith) r₀-fits
 
       next-place : (q : List ℕ) (x i : ℕ) → from q (x + 1) i ≡ from q x (suc i)
       unfolding from
       next-place q x i = let e : x + 1 + i ≡ x + suc i = omega arith in ap (λ (j : ℕ). swap (wordAt q j)) e
 
       row-next : (i : ℕ) → i < m → Same (rowOf s′ m k (suc i) + from s₁ minus i) (from s high i + from s₁ plus i)
-      row-next i l = rw (← (next-place s′ to i), ← (kept high i (omega (arith, high-before)))) (M .made i l)
+      row-next i l = rw (← (next-place s′ to i), ← (kept high i (omega (arith, high-before u u-is)))) (M .made i l)
 
       entered : Mixed (rowOf s′ m k) (rowOf s m (a / 2)) (turned (b % 2) (rowOf s m (b / 2))) m → Entered t s s′ m k
-      entered X = record { before = λ q l. M .before q (omega arith) ∙ store-other s s₁ to v long is q (λ e. omega arith); stands = stands X }
+      entered X = record { before = λ q l. M .before q (omega arith) ∙ store-other s s₁ to r₀ long is q (λ e. omega arith); stands = stands s′ X }
 
-    pub entered-plain : (f : Bool) → f ≡ eqb (b % 2) 1 → f ≡ false → v ≡ first → Mixes s₁ s′ (to + 1) high (low + 1) low m → Entered t s s′ m k
+    pub entered-plain : (f : Bool) → f ≡ eqb (b % 2) 1 → f ≡ false → r₀ ≡ first → Mixes s₁ s′ (to + 1) high (low + 1) low m → Entered t s s′ m k
     unfolding turned
     entered-plain f f-is q e M =
         let z : b % 2 ≡ 0 = omega (arith, eqb-false (b % 2) 1 (sym f-is ∙ q)) in
         entered (low + 1) low M
-        (rw z record {
+        (rw (z, ← u-is, ← v-is) record {
           small = from-fits s′ to;
           first = ap (_% 18446744073709551616) (row-first (low + 1) low M ∙ e ∙ low-first);
-          next = λ i l. rw (kept low i (omega (arith, low-before)), kept (low + 1) i (omega (arith, low-before)), next-place (low + 1) low M s low i) at (row-next (low + 1) low M i l);
+          next = λ i l. rw (kept low i (omega (arith, low-before v v-is)), kept (low + 1) i (omega (arith, low-before v v-is)), next-place (low + 1) low M s low i) at (row-next (low + 1) low M i l);
         })
 
-    pub entered-flagged : (f : Bool) → f ≡ eqb (b % 2) 1 → f ≡ true → (v + first) % 18446744073709551616 ≡ 0 → Mixes s₁ s′ (to + 1) high low (low + 1) m → Entered t s s′ m k
+    pub entered-flagged : (f : Bool) → f ≡ eqb (b % 2) 1 → f ≡ true → (r₀ + first) % 18446744073709551616 ≡ 0 → Mixes s₁ s′ (to + 1) high low (low + 1) m → Entered t s s′ m k
     unfolding turned opposed
     entered-flagged f f-is q e M =
         let o : b % 2 ≡ 1 = eqb-true (b % 2) 1 (sym f-is ∙ q) in
         entered low (low + 1) M
-        (rw o record {
+        (rw (o, ← u-is, ← v-is) record {
           small = from-fits s′ to;
-          first = rw (row-first low (low + 1) M) (turned-first v (from s low 0) (from-fits s low 0) (rw low-first at e));
-          next = λ i l. turned-next _ _ _ _ (from-fits s low i) (from-fits s low (suc i)) (rw (kept low i (omega (arith, low-before)), kept (low + 1) i (omega (arith, low-before)), next-place low (low + 1) M s low i) at (row-next low (low + 1) M i l));
+          first = rw (row-first low (low + 1) M) (turned-first r₀ (from s low 0) (from-fits s low 0) (rw low-first at e));
+          next = λ i l. turned-next _ _ _ _ (from-fits s low i) (from-fits s low (suc i)) (rw (kept low i (omega (arith, low-before v v-is)), kept (low + 1) i (omega (arith, low-before v v-is)), next-place low (low + 1) M s low i) at (row-next low (low + 1) M i l));
         })
