@@ -19,7 +19,7 @@ use Rattle.diagram.proofs.Counts.{under-period, else-half, then-half}
 use Rattle.rows.specs.Inner.{opposed, turned, Stands, from, rowOf, Mixes, Rows, Next, Entered}
 use Rattle.rows.proofs.Modular.{Same, turned-first, turned-next}
 use Rattle.rows.proofs.Standing.{Mixed, halves, free-to, flagged}
-use Rattle.rows.proofs.Placing.{from-fits, from-stays, loaded, store-here, store-other}
+use Rattle.rows.proofs.Placing.{from-fits, from-next, from-stays, loaded, store-here, store-other}
 
 -- rows lie one behind the other
 pub row-below : (m v k : ℕ) → v < k → (m + 1) * v + (m + 1) ≤ (m + 1) * k
@@ -106,12 +106,8 @@ module _ (t s : List ℕ) (m k h a b : ℕ) (p : 0 < k) (R : Next t s m k) (r : 
       row-first : rowOf s′ m k 0 ≡ r₀
       row-first = from-stays s₁ s′ to 0 to (M .before to (omega arith)) (omega arith) ∙ store-here s s₁ to r₀ long is to 0 (omega arith) r₀-fits
 
-      next-place : (q : List ℕ) (x i : ℕ) → from q (x + 1) i ≡ from q x (suc i)
-      unfolding from
-      next-place q x i = let e : x + 1 + i ≡ x + suc i = omega arith in ap (λ (j : ℕ). swap (wordAt q j)) e
-
       row-next : (i : ℕ) → i < m → Same (rowOf s′ m k (suc i) + from s₁ minus i) (from s high i + from s₁ plus i)
-      row-next i l = rw (← (next-place s′ to i), ← (kept high i (omega (arith, high-before u u-is)))) (M .made i l)
+      row-next i l = rw (← (from-next s′ to i), ← (kept high i (omega (arith, high-before u u-is)))) (M .made i l)
 
       entered : Mixed (rowOf s′ m k) (rowOf s m (a / 2)) (turned (b % 2) (rowOf s m (b / 2))) m → Entered t s s′ m k
       entered X = record { before = λ q l. M .before q (omega arith) ∙ store-other s s₁ to r₀ long is q (λ e. omega arith); stands = stands s′ X }
@@ -124,7 +120,7 @@ module _ (t s : List ℕ) (m k h a b : ℕ) (p : 0 < k) (R : Next t s m k) (r : 
         (rw (z, ← u-is, ← v-is) record {
           small = from-fits s′ to;
           first = ap (_% 18446744073709551616) (row-first (low + 1) low M ∙ e ∙ low-first);
-          next = λ i l. rw (kept low i (omega (arith, low-before v v-is)), kept (low + 1) i (omega (arith, low-before v v-is)), next-place (low + 1) low M s low i) at (row-next (low + 1) low M i l);
+          next = λ i l. rw (kept low i (omega (arith, low-before v v-is)), kept (low + 1) i (omega (arith, low-before v v-is)), from-next s low i) at (row-next (low + 1) low M i l);
         })
 
     pub entered-flagged : (f : Bool) → f ≡ eqb (b % 2) 1 → f ≡ true → (r₀ + first) % 18446744073709551616 ≡ 0 → Mixes s₁ s′ (to + 1) high low (low + 1) m → Entered t s s′ m k
@@ -135,5 +131,5 @@ module _ (t s : List ℕ) (m k h a b : ℕ) (p : 0 < k) (R : Next t s m k) (r : 
         (rw (o, ← u-is, ← v-is) record {
           small = from-fits s′ to;
           first = rw (row-first low (low + 1) M) (turned-first r₀ (from s low 0) (from-fits s low 0) (rw low-first at e));
-          next = λ i l. turned-next _ _ _ _ (from-fits s low i) (from-fits s low (suc i)) (rw (kept low i (omega (arith, low-before v v-is)), kept (low + 1) i (omega (arith, low-before v v-is)), next-place low (low + 1) M s low i) at (row-next low (low + 1) M i l));
+          next = λ i l. turned-next _ _ _ _ (from-fits s low i) (from-fits s low (suc i)) (rw (kept low i (omega (arith, low-before v v-is)), kept (low + 1) i (omega (arith, low-before v v-is)), from-next s low i) at (row-next low (low + 1) M i l));
         })

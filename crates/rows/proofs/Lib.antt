@@ -4,3 +4,6 @@ pub mod Expanding
 pub mod Standing
 pub mod Placing
 pub mod Entering
+pub mod Filling
+pub mod Summing
+pub mod Counting

@@ -25,8 +25,8 @@ pub mul-same : (a b c : ℕ) → Same a b → Same (a * c) (b * c)
 mul-same a b c p = mul-mod a c ∙ ap (λ (r : ℕ). r * c % 18446744073709551616) p ∙ sym (mul-mod b c)
 
 -- twice a number below 2 ^ 63, halved
-pub half-same : (s c : ℕ) → c < 9223372036854775808 → Same s (c + c) → s % 18446744073709551616 / 2 ≡ c
-half-same s c l p = omega arith
+pub half-same : (d c : ℕ) → d < 18446744073709551616 → c < 9223372036854775808 → Same d (c + c) → d / 2 ≡ c
+half-same d c k l p = omega arith
 
 -- a product of two halves fits
 pub halves-fit : (a b : ℕ) → a < 4294967296 → b < 4294967296 → a * b < 18446744073709551616

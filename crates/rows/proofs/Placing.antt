@@ -17,6 +17,11 @@ pub from-fits : (s : List ℕ) (p i : ℕ) → from s p i < 18446744073709551616
 unfolding from
 from-fits s p i = swap-fits (wordAt s (p + i))
 
+-- from the next place on
+pub from-next : (s : List ℕ) (p i : ℕ) → from s (p + 1) i ≡ from s p (suc i)
+unfolding from
+from-next s p i = let e : p + 1 + i ≡ p + suc i = omega arith in ap (λ (q : ℕ). swap (wordAt s q)) e
+
 -- words that stay are numbers that stay
 pub from-stays : (s s′ : List ℕ) (p i q : ℕ) → wordAt s′ q ≡ wordAt s q → q ≡ p + i → from s′ p i ≡ from s p i
 unfolding from

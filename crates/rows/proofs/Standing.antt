@@ -14,6 +14,13 @@ use Rattle.rows.specs.Inner.{expand, opposed, turned, Stands}
 use Rattle.rows.proofs.Modular.{Same, add-same, cancel-same, half-same, sign-same}
 use Rattle.rows.proofs.Expanding.{expand-cong, expand-zeros, expand-sum, expand-more}
 
+-- only the entries up to m matter
+pub stands-cong : (P : ℕ → Bool) (a b : ℕ → ℕ) (m h : ℕ) → ((i : ℕ) → i ≤ m → b i ≡ a i) → Stands P a m h → Stands P b m h
+stands-cong P a b m h e S = record {
+  ends = λ i l q. e i q ∙ S .ends i l q;
+  balance = λ j l. rw (expand-cong b a h j (λ i q. e i (omega arith))) (S .balance j l);
+}
+
 -- row r is made of row a, where a setting is on, and row z, where it is off: r = y × a + (1 - y) × z as polynomials in y
 pub record Mixed (r a z : ℕ → ℕ) (m : ℕ) : Type 0 where
   pub small : (i : ℕ) → r i < 18446744073709551616
@@ -97,17 +104,18 @@ sink a m one zeros P all = record { ends = ends; balance = λ j l. omega (arith,
     counted : (j : ℕ) → countOn P 0 j ≡ binomial 0 j
     counted j = on-cong P (λ _. true) 0 j (λ x _. all x) ∙ on-all 0 j
 
+-- a row and the same with its signs turned come to nothing
+pub opposed-sum : (a : ℕ → ℕ) → ((i : ℕ) → a i < 18446744073709551616) → (h j : ℕ) → Same (expand (opposed a) h j + expand a h j) 0
+unfolding opposed
+opposed-sum a small h j =
+    expand-sum (opposed a) a (λ _. 0) (λ _. 0) h j (λ i _. sign-same (a i) (small i))
+    ∙ ap (λ (x : ℕ). (x + x) % 18446744073709551616) (expand-zeros h j)
+
 -- a flag turns every sign
 module _ (P : ℕ → Bool) (a : ℕ → ℕ) (m h : ℕ) (small : (i : ℕ) → a i < 18446744073709551616) (S : Stands P a m h) where
   opposed-ends : (i : ℕ) → h < i → i ≤ m → opposed a i ≡ 0
   unfolding opposed
   opposed-ends i p l = rw (S .ends i p l)
-
-  opposed-sum : (j : ℕ) → Same (expand (opposed a) h j + expand a h j) 0
-  unfolding opposed
-  opposed-sum j =
-      expand-sum (opposed a) a (λ _. 0) (λ _. 0) h j (λ i _. sign-same (a i) (small i))
-      ∙ ap (λ (x : ℕ). (x + x) % 18446744073709551616) (expand-zeros h j)
 
   opposed-balance : (j : ℕ) → j ≤ m → Same (expand (opposed a) h j + countOn (λ x. not (not (P x))) h j) (countOn (λ x. not (P x)) h j)
   opposed-balance j l =
@@ -116,7 +124,7 @@ module _ (P : ℕ → Bool) (a : ℕ → ℕ) (m h : ℕ) (small : (i : ℕ) →
       let n = countOn (λ x. not (P x)) h j in
       let regroup : e + (expand a h j + n) ≡ e + expand a h j + n = omega arith in
       rw (on-cong (λ x. not (not (P x))) P h j (λ x _. twice (P x)))
-      (add-same e c e (expand a h j + n) refl (sym (S .balance j l)) ∙ ap (_% 18446744073709551616) regroup ∙ add-same (e + expand a h j) n 0 n (opposed-sum j) refl ∙ omega arith)
+      (add-same e c e (expand a h j + n) refl (sym (S .balance j l)) ∙ ap (_% 18446744073709551616) regroup ∙ add-same (e + expand a h j) n 0 n (opposed-sum a small h j) refl ∙ omega arith)
     where
       twice : (b : Bool) → not (not b) ≡ b
       twice true = refl
@@ -127,11 +135,11 @@ module _ (P : ℕ → Bool) (a : ℕ → ℕ) (m h : ℕ) (small : (i : ℕ) →
   flagged zero = S
   flagged (suc f) = record { ends = opposed-ends; balance = opposed-balance }
 
--- what a row comes to: its sum and the binomial coefficient are twice the count
-pub row-counts : (P : ℕ → Bool) (a : ℕ → ℕ) (m h : ℕ) → h ≤ 63 → Stands P a m h → (s : ℕ) → Same s (expand a h m) → (s + binomial h m) % 18446744073709551616 / 2 ≡ countOn P h m
-row-counts P a m h few S s s-is =
+-- what a row comes to: all setups with m on, and those that pass less those that do not, are twice those that pass
+pub row-counts : (P : ℕ → Bool) (a : ℕ → ℕ) (m h : ℕ) → h ≤ 63 → Stands P a m h → (d : ℕ) → d < 18446744073709551616 → Same d (binomial h m + expand a h m) → d / 2 ≡ countOn P h m
+row-counts P a m h few S d fits d-is =
     let e = expand a h m in
     let c = countOn P h m in
     let n = countOn (λ x. not (P x)) h m in
-    let sum : Same (s + binomial h m) (e + n + c) = add-same s (binomial h m) e (n + c) s-is (omega (arith, on-both P h m)) ∙ omega arith in
-    half-same (s + binomial h m) c (omega (arith, on-both P h m, binomial-fits h m few)) (sum ∙ add-same (e + n) c c c (S .balance m (le-refl m)) refl)
+    let parts : binomial h m + e ≡ e + n + c = omega (arith, on-both P h m) in
+    half-same d c fits (omega (arith, on-both P h m, binomial-fits h m few)) (d-is ∙ ap (_% 18446744073709551616) parts ∙ add-same (e + n) c c c (S .balance m (le-refl m)) refl)
