@@ -1,5 +1,5 @@
 -- The rules one after the other, and the sheet as they leave it, in the terms of the code. Assumes nothing.
-use Prim.Native.Nat.{ℕ, _+_, _*_, _/_, _≤_}
+use Prim.Native.Nat.{ℕ, _*_, _/_, _≤_}
 use mathlib.Core.Path.{_≡_, sym, ap, _∙_}
 use mathlib.Core.Bool.{Bool, false}
 use mathlib.Core.List.{List}
@@ -9,7 +9,7 @@ use borrow.Author.Tests.{eq-eqb, ne-eqb}
 use Rattle.words.specs.Words.{wordAt, wordsOver}
 use Rattle.diagram.specs.Format.{nodes}
 use Rattle.diagram.specs.Answer.{Answer, value, refusal, andThen}
-use Rattle.diagram.specs.Rules.{checkHeaderOf, checkHeader, checkDiagram, check}
+use Rattle.diagram.specs.Rules.{checkHeader, checkDiagram, check}
 use Rattle.diagram.specs.Reading.{IsHeader}
 use Rattle.diagram.proofs.Refusals.{early-low, header-refuses}
 use Rattle.diagram.proofs.Accept.{Headed, headed}
@@ -70,8 +70,3 @@ module _ (need : ℕ → ℕ) (t s : List ℕ) (v : Verdict) (v-is : verdictAs v
         unfolding blankFor
         diagram-zeroed m m-is o s′ z =
             z ∙ rw (h .nodes-is) (sheet-zeroed _ (need (nodes (wordAt t))) (checkingFor need t s) (numberOf r) (placeOf r) s (sym diagram-refused) (sym m-is ∙ o))
-
--- N and some places more, as the code has them
-pub need-one : (more : ℕ) (t s : List ℕ) → (checkingFor (λ N. 1 * N + more) t s ≡ checkingFor (λ N. N + more) t s) × (blankFor (λ N. 1 * N + more) t s ≡ blankFor (λ N. N + more) t s)
-unfolding checkingFor blankFor check checkHeaderOf
-need-one more t s = let e : 1 * nodes (wordAt t) + more ≡ nodes (wordAt t) + more = omega arith in (rw e, rw e)

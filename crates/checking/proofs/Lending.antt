@@ -1,13 +1,13 @@
 -- The sheet that the check leaves to an operation, and how it is handed back. Assumes nothing.
 use Prim.Native.Nat.{ℕ, _+_, _*_, _≤_}
-use mathlib.Core.Path.{_≡_, refl, sym, ap, subst, _∙_}
+use mathlib.Core.Path.{_≡_, refl, sym, ap, subst, fun-ext, _∙_}
 use mathlib.Core.Bool.{Bool, true, false, cond}
 use mathlib.Core.List.{List, _++_}
 use native.Mathlib.Nat.{le-refl}
 use native.Mathlib.Omega.{arith}
 use lib.Dec.{eqb}
-use lib.ListN.{length, drop}
-use lib.Seq.{drop-at}
+use lib.ListN.{length, take, drop}
+use lib.Seq.{length-take-le, drop-at}
 use Rattle.words.specs.Words.{wordAt, wordsBytes, wordsOver}
 use Rattle.words.proofs.Laws.{length-wordsBytes, over-over}
 use Rattle.diagram.specs.Format.{nodes}
@@ -22,16 +22,11 @@ use Rattle.checking.specs.declared.Shape.{Shape}
 use Rattle.checking.specs.Answers.{checkedAs}
 use Rattle.checking.specs.Operations.{sheetBy, blankFor, counts}
 use Rattle.checking.specs.Inner.{Lends, Begins, Past}
-use Rattle.checking.proofs.Compose.{need-one}
 use Rattle.checking.proofs.Accepting.{checking-is, places-lent, table-holds, table-reduced, root-inside}
 
--- an operation that needs N and some places more, as the code has them
-pub begins-once : (more : ℕ) {t s out : List ℕ} {a : Checked} → Begins (λ N. 1 * N + more) t s out a → Begins (λ N. N + more) t s out a
-begins-once more {t} {s} {out} {a} B = record { answers = B .answers ∙ need-one more t s .0; lends = go a (B .lends) }
-  where
-    go : (a : Checked) → Lends (λ N. 1 * N + more) t s out a → Lends (λ N. N + more) t s out a
-    go (Table shape) lent = lent
-    go (Refused r) lent = lent ∙ need-one more t s .1
+-- the places that are needed, said in another way
+pub begins-for : {need : ℕ → ℕ} (need′ : ℕ → ℕ) → ((N : ℕ) → need N ≡ need′ N) → {t s out : List ℕ} {a : Checked} → Begins need t s out a → Begins need′ t s out a
+begins-for need′ e {t} {s} {out} {a} B = subst (λ (need : ℕ → ℕ). Begins need t s out a) (fun-ext e) B
 
 -- N + 1 places are enough where N + 1 are needed
 pub enough : (N : ℕ) → N + 1 ≤ N + 1
@@ -42,7 +37,11 @@ pub filled-past : (f : ℕ → ℕ) (m : ℕ) (s s′ : List ℕ) → s′ ≡ w
 unfolding wordsOver
 filled-past f m s s′ q = ap (drop (8 * m)) q ∙ drop-at (wordsBytes f m) (drop (8 * m) s) (8 * m) (length-wordsBytes f m)
 
--- ... and so does what an answer leaves
+-- ... and so does the use of the first m places, lent as memory of their own
+pub lent-past : (m : ℕ) (s front : List ℕ) → 8 * m ≤ length s → length front ≡ length (take (8 * m) s) → Past m s (front ++ drop (8 * m) s)
+lent-past m s front l e = drop-at front (drop (8 * m) s) (8 * m) (e ∙ length-take-le (8 * m) s l)
+
+-- ... and what an answer leaves
 pub kept-past : {A : Type 0} (f : ℕ → ℕ) (m : ℕ) (a : Answer A) (s s′ : List ℕ) → s′ ≡ sheetBy f m a s → Past m s s′
 unfolding sheetBy
 kept-past f m (value v) s s′ q = filled-past f m s s′ q

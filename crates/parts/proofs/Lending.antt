@@ -1,10 +1,10 @@
 -- The places of the sheet that are lent for the new numbers. Assumes nothing.
 use Prim.Native.Nat.{ℕ, _+_, _-_, _*_, _≤_}
 use mathlib.Core.Path.{_≡_, sym, ap, _∙_}
-use mathlib.Core.List.{List, _++_}
+use mathlib.Core.List.{List}
 use native.Mathlib.Omega.{arith}
 use lib.ListN.{length, take, drop}
-use lib.Seq.{length-take-le, drop-at, drop-drop}
+use lib.Seq.{length-take-le, drop-drop}
 use Rattle.checking.specs.Inner.{Past}
 use Rattle.cutting.specs.Cut.{Room}
 use Rattle.parts.specs.Operations.{needed}
@@ -20,10 +20,6 @@ module _ (sheet : List ℕ) (N : ℕ) (fits : 8 * needed N ≤ length sheet) whe
   -- they are room enough: N + 2 n + 1 places are used
   pub lent-room : (table : List ℕ) (n : ℕ) → 8 * N + 8 ≤ length table → n ≤ 63 → N ≤ 65535 → Room table lent n N
   lent-room table n l few m = record { table-long = l; map-long = omega (arith, lent-long); few-settings = few; few-nodes = m }
-
-  -- those past them are as before
-  pub lent-past : (map : List ℕ) → length map ≡ length lent → Past (needed N) sheet (map ++ drop (8 * needed N) sheet)
-  lent-past map l = drop-at map (drop (8 * needed N) sheet) (8 * needed N) (l ∙ lent-long)
 
 -- what is past more places is past fewer
 pub past-more : (m m′ : ℕ) (s s′ : List ℕ) → m ≤ m′ → Past m s s′ → Past m′ s s′

@@ -1,5 +1,5 @@
 -- Rows one after the other, in the terms of the loop that makes them. Assumes nothing.
-use Prim.Native.Nat.{ℕ, zero, suc, _+_, _-_, _*_, _%_, _≤_, _<_}
+use Prim.Native.Nat.{ℕ, suc, _+_, _-_, _*_, _/_, _%_, _≤_, _<_}
 use mathlib.Core.Path.{_≡_, refl, sym, ap, subst, _∙_}
 use mathlib.Core.List.{List}
 use native.Mathlib.Omega.{arith}
@@ -12,6 +12,8 @@ use Rattle.words.proofs.Cases.{less, same, more, tri}
 use Rattle.words.proofs.Laws.{words-read, length-wordsOver}
 use Rattle.diagram.specs.Format.{height, thenEdge}
 use Rattle.diagram.specs.Meaning.{plain, holds}
+use Rattle.diagram.specs.Ordered.{HasDiagram}
+use Rattle.diagram.proofs.Paths.{height-le-settings}
 use Rattle.rows.specs.Inner.{from, rowOf, Stands, Rows, Next, Entered, Fillable, Opens}
 use Rattle.rows.proofs.Standing.{stands-cong, sink}
 use Rattle.rows.proofs.Placing.{from-stays, store-here, store-other, store-long}
@@ -63,8 +65,24 @@ row-entered t s s′ m k R X e E =
       room = omega (arith, X .room);
       stand = λ v l. elim (tri v (k + 1)) [
         | less q ↦ stands-cong (plain w v) (rowOf s m v) (rowOf s′ m v) m (height w v)
-        (λ i j. from-stays s s′ ((m + 1) * v) i ((m + 1) * v + i) (E .before ((m + 1) * v + i) (omega (arith, row-below m v (k + 1) q))) refl) (R .stand v (omega arith))
+            (λ i j. from-stays s s′ ((m + 1) * v) i ((m + 1) * v + i) (E .before ((m + 1) * v + i) (omega (arith, row-below m v (k + 1) q))) refl) (R .stand v (omega arith))
         | same q ↦ subst (λ (j : ℕ). Stands (plain w j) (rowOf s′ m j) m (height w j)) (sym q) (E .stands)
         | more q ↦ absurd (omega arith)
       ];
+    }
+
+-- after the last one the root edge can be counted
+pub root-opens : (t s : List ℕ) (n N e m : ℕ) → HasDiagram t n N → e / 2 ≤ N → m ≤ n → Rows t s m N → Opens t s e n m
+root-opens t s n N e m H l some R =
+    let q : e / 2 + 1 ≤ N + 1 = omega arith in
+    record {
+      rows = record {
+        within = record { settings = n; nodes = N; holds = H; inside = l };
+        few = R .few;
+        room = omega (arith, R .room, mul-le-mul-left (m + 1) q);
+        stand = λ v p. R .stand v (omega arith);
+      };
+      low = height-le-settings (wordAt t) n N (H .ordered) (e / 2) l;
+      few = H .few-settings;
+      some = some;
     }

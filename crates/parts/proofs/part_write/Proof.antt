@@ -4,8 +4,9 @@ use native.Mathlib.Omega.{arith}
 use borrow.Author.Needs.{needs}
 use Rattle.checking.specs.Inner.{IsRefused}
 use Rattle.checking.proofs.Accepting.{table-long, table-holds}
-use Rattle.checking.proofs.Lending.{begins-once, places-left, countable}
+use Rattle.checking.proofs.Lending.{begins-for, places-left, countable}
 use Rattle.parts.proofs.Extents.{some-needed, check-refused, part-promised}
+use Rattle.parts.specs.Operations.{needed}
 use Rattle.parts.proofs.part_write.Statement.{statement}
 use Rattle.parts.proofs.part_write.Tie as tie
 
@@ -15,7 +16,7 @@ refusal-of-requires c κs = subst IsRefused (sym (c .enum-told2 .given .1)) tt
 returns : tie.Need-returns
 returns c =
     let told = c .before in
-    check-refused (begins-once 512 (told .before .before .before .before .begin-with .ensures)) _ _ _ (told .enum-told2 .given .1) _ _ (c .refusal-of .ensures)
+    check-refused (begins-for needed (λ N. omega arith) (told .before .before .before .before .begin-with .ensures)) _ _ _ (told .enum-told2 .given .1) _ _ (c .refusal-of .ensures)
 
 header-of-requires : tie.Need-header-of-requires
 header-of-requires c κs = table-long (c .before .before .before .before .begin-with .ensures) (c .enum-told .given .1)
@@ -27,7 +28,7 @@ begun c = c .before .before .before .before .before
 write-part-requires : tie.Need-write-part-requires
 write-part-requires c κs =
     let a = c .before .before in
-    let B = begins-once 512 (begun a .begin-with .ensures) in
+    let B = begins-for needed (λ N. omega arith) (begun a .begin-with .ensures) in
     let q = a .before .enum-told .given .1 in
     let h = a .header-of .ensures in
     (countable B q h (some-needed _), places-left B q (h .nodes-is))
@@ -48,7 +49,7 @@ returns-2 c =
     let blank = c .before .before in
     let inner = blank .before .before .before .before .before .before .before in
     let a = inner .before .before .before in
-    let B = begins-once 512 (begun a .begin-with .ensures) in
+    let B = begins-for needed (λ N. omega arith) (begun a .begin-with .ensures) in
     part-promised B _ _ _ (a .before .enum-told .given .1) (a .header-of .ensures) _ _ _ _ (inner .write-part .ensures) (blank .blank .ensures)
 
 pub part-write-spec : {M : Type 1} → statement M

@@ -6,7 +6,8 @@ use Rattle.words.specs.Words.{wordAt}
 use Rattle.diagram.specs.Meaning.{under}
 use Rattle.diagram.proofs.Select.{select-some}
 use Rattle.parts.proofs.Ends.{extent-fits, none-written, some-written}
-use Rattle.parts.proofs.Lending.{lent-long, lent-room, lent-past}
+use Rattle.checking.proofs.Lending.{lent-past}
+use Rattle.parts.proofs.Lending.{lent-long, lent-room}
 use Rattle.parts.proofs.write_extent.Statement.{statement}
 use Rattle.parts.proofs.write_extent.Tie as tie
 
@@ -41,7 +42,7 @@ returns-2 c =
     let b = if1 .before .before .before .before .before in
     let w = write-between .write-between in (
       some-written _ _ _ _ _ _ (if1 .if1 .left) (descend .descend .ensures) (descend2 .descend2 .ensures) (w .ensures),
-      lent-past _ _ (b .pre .2) (w .last .1 .0) (w .kept .1 .0),
+      lent-past _ _ (w .last .1 .0) (b .pre .2) (w .kept .1 .0),
     )
 
 pub write-extent-spec : {M : Type 1} → statement M

@@ -34,8 +34,8 @@ loop-again c =
     let long : 8 * (a .to + head .loop .i) + 8 ≤ length (head .loop .sheet) = omega (arith, head .before .before .pre .3, i .2) in (
       omega arith,
       mixed-next _ _ _ _ _ _ _ (i .1) (omega (arith, head .before .before .pre .0)) (omega (arith, head .before .before .pre .1)) (omega (arith, head .before .before .pre .2)) _ _ _ _ _
-      (search needs) (load .load .ensures) (search needs) (load2 .load2 .ensures) (search needs) (load3 .load3 .ensures) (add .wrapping-add-u64 .ensures)
-      (search needs) (sub .wrapping-sub-u64 .ensures) long _ (store .store .ensures),
+          (search needs) (load .load .ensures) (search needs) (load2 .load2 .ensures) (search needs) (load3 .load3 .ensures) (add .wrapping-add-u64 .ensures)
+          (search needs) (sub .wrapping-sub-u64 .ensures) long _ (store .store .ensures),
       store-long _ _ _ _ long (store .store .ensures) ∙ i .2,
     )
 

@@ -1,0 +1,2 @@
+-- What counting by how many settings are on answers.
+pub mod Operations
