@@ -3,12 +3,13 @@ ghost use mathlib.Core.Path.{_≡_};
 ghost use Prim.Native.Nat.{ℕ};
 ghost use lib.ListN.{length};
 ghost use Rattle.rules.specs.Packed.{packed};
-ghost use Rattle.checking.specs.Operations.{blank};
+ghost use Rattle.checking.specs.Operations.{blank, blankFor};
 ghost use Rattle.ranking.specs.Operations.{ranking, unranking};
 ghost use Rattle.exclusion.specs.Operations.{rulingOut};
 ghost use Rattle.lists.specs.Operations.{items, unrankingList, setupsAfter};
 ghost use Rattle.tables.specs.Writing.{lengthOf};
 ghost use Rattle.parts.specs.Operations.{partWriting, Promise};
+ghost use Rattle.weighing.specs.Operations.{needed, countingOn};
 ghost use Rattle.tightening.specs.Operations as tightening;
 ghost use Rattle.tightening.specs.Operations.{makingProper};
 ghost use Rattle.naming.specs.declared.Operation.the-variants.{Joined, Shared, Without};
@@ -46,6 +47,22 @@ pub extern "C" fn setupbook_unrank(table: &[u8], rank: u64, sheet: &mut [u8]) ->
         Unranked::To(x) => x.0,
         Unranked::Refused(r) => rules::pack_refusal(r),
     }
+}
+
+// The permitted setups with exactly m settings on: how many.
+#[no_mangle]
+pub extern "C" fn setupbook_count_on(
+    table: &[u8],
+    m: u64,
+    sheet: &mut [u8],
+    answer: &mut [u64; 3],
+) -> u64
+    ensures { λ r. ⌜ (r ≡ returned (countingOn (now (table .entry)) m (now (sheet .entry))))
+        × (now (answer .exit) ≡ told single (countingOn (now (table .entry)) m (now (sheet .entry))))
+        × (now (sheet .exit) ≡ blankFor needed (now (table .entry)) (now (sheet .entry))) ⌝ }
+{
+    let counted = weighing::count_on(table, m, sheet);
+    telling::tell_counted(counted, answer)
 }
 
 // The settings that rule a setup out: how many, and the setup given.

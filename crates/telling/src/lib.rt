@@ -2,10 +2,12 @@
 ghost use mathlib.Core.Path.{_≡_};
 ghost use mathlib.Core.List.{[], _∷_};
 ghost use Rattle.rules.specs.Refusals.{numberOf, placeOf};
+ghost use Rattle.checking.specs.Answers.{countedAs};
 ghost use Rattle.exclusion.specs.Answers.{foundAs};
 ghost use Rattle.tables.specs.Answers.{writtenAs};
 ghost use Rattle.combining.specs.Answers.{combinedAs};
 ghost use Rattle.telling.specs.Told.{single, foundWords, returned, told, toldOf};
+use checking::Counted;
 use combining::Combined;
 use exclusion::RuledOut;
 use rules::Refusal;
@@ -25,6 +27,16 @@ pub fn tell_refusal(refusal: Refusal, table: u64, answer: &mut [u64; 3]) -> u64
 {
     *answer = [rules::place_of(refusal) as u64, table, 0];
     rules::number_of(refusal)
+}
+
+// Tells a count.
+pub fn tell_counted(counted: Counted, answer: &mut [u64; 3]) -> u64
+    ensures { λ r. ⌜ (r ≡ returned (countedAs counted)) × (now (answer .exit) ≡ told single (countedAs counted)) ⌝ }
+{
+    match counted {
+        Counted::Total(c) => tell(c, 0, 0, answer),
+        Counted::Refused(r) => tell_refusal(r, 0, answer),
+    }
 }
 
 // Tells what was found of a setup.
