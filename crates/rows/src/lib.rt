@@ -6,6 +6,7 @@ ghost use Prim.Native.Nat.{_+_, _*_, _%_, _^_, _≤_, _<_};
 ghost use lib.ListN.{length};
 ghost use Rattle.words.specs.Words.{wordAt};
 ghost use Rattle.diagram.specs.Meaning.{under};
+ghost use Rattle.pascal.specs.Triangle.{triangle};
 ghost use Rattle.pascal.specs.Ones.{countOn};
 ghost use Rattle.rows.specs.Inner.{expand, from, Mixes, Next, Entered, Rows, Fillable, Opened, CountsUnder};
 use diagram::Edge;
@@ -74,8 +75,8 @@ pub fn fill(table: &[u8], sheet: &mut [u8], n: u64, nodes: usize, m: usize)
 }
 
 // The sum of the m + 1 numbers from place `at` on, number i times the binomial coefficient of n - i and m - i, modulo 2^64.
-fn expand_row(sheet: &[u8], at: usize, n: usize, m: usize) -> u64
-    requires { ⌜ (n ≤ 63) × (m ≤ n) × (8 * (at + m + 1) ≤ length (now sheet)) ⌝ }
+fn expand_row(sheet: &[u8], binomials: &[u64; 2080], at: usize, n: usize, m: usize) -> u64
+    requires { ⌜ (now binomials ≡ triangle 64) × (n ≤ 63) × (m ≤ n) × (8 * (at + m + 1) ≤ length (now sheet)) ⌝ }
     ensures { λ r. ⌜ r ≡ expand (from (now (sheet .entry)) at) n m % 2 ^ 64 ⌝ }
 {
     let mut sum = 0;
@@ -83,7 +84,7 @@ fn expand_row(sheet: &[u8], at: usize, n: usize, m: usize) -> u64
     while i < m {
         let term = times(
             words::load(sheet, at + i),
-            pascal::coefficient(n - i, m - i),
+            pascal::coefficient(binomials, n - i, m - i),
         );
         sum = wrapping_add_u64(sum, term);
         i += 1;
@@ -96,8 +97,9 @@ pub fn count_under(sheet: &[u8], e: Edge, n: usize, m: usize) -> u64
     requires { ⌜ Opened (now sheet) (e .value) n m ⌝ }
     ensures { λ r. ⌜ CountsUnder (now (sheet .entry)) (e .value) n m r ⌝ }
 {
-    let sum = expand_row(sheet, (m + 1) * e.node().0, n, m);
-    let all = pascal::coefficient(n, m);
+    let binomials = pascal::binomials();
+    let sum = expand_row(sheet, &binomials, (m + 1) * e.node().0, n, m);
+    let all = pascal::coefficient(&binomials, n, m);
     if e.flagged() {
         return wrapping_sub_u64(all, sum) / 2;
     }

@@ -1,22 +1,31 @@
 -- `pascal::coefficient` meets its contract: where an entry stands. Assumes nothing.
-use mathlib.Core.Path.{_∙_}
+use Prim.Native.Nat.{ℕ, _+_, _*_, _/_}
+use mathlib.Core.Path.{ap, _∙_}
+use mathlib.Core.List.{List}
 use native.Mathlib.Omega.{arith}
 use borrow.Author.Needs.{needs}
+use lib.ListN.{getD}
 use Rattle.pascal.proofs.Pascal.{place-inside, place-holds}
 use Rattle.pascal.proofs.coefficient.Statement.{statement}
 use Rattle.pascal.proofs.coefficient.Tie as tie
 
-mul-entry : tie.Need-mul-entry
-mul-entry c = let p = c .pre in record { fits = omega (arith, place-inside _ _ (p .0) (p .1)) }
+mul-result : tie.Need-mul-result
+mul-result c = let p = c .pre in record { fits = omega (arith, place-inside _ _ (p .1) (p .2)) }
 
-add-entry-2 : tie.Need-add-entry-2
-add-entry-2 c = let p = c .pre in record { fits = omega (arith, place-inside _ _ (p .0) (p .1)) }
+add-result-2 : tie.Need-add-result-2
+add-result-2 c = let p = c .pre in record { fits = omega (arith, place-inside _ _ (p .1) (p .2)) }
 
-entry-requires : tie.Need-entry-requires
-entry-requires c κs = let p = c .pre in place-inside _ _ (p .0) (p .1)
+mul-result-2 : tie.Need-mul-result-2
+mul-result-2 c = let p = c .pre in record { fits = omega (arith, place-inside _ _ (p .1) (p .2)) }
+
+element-copy-out-result : tie.Need-element-copy-out-result
+element-copy-out-result c = let p = c .pre in place-inside _ _ (p .1) (p .2)
 
 returns : tie.Need-returns
-returns c = let p = c .before .pre in c .entry .ensures ∙ place-holds _ _ (p .0) (p .1)
+returns c =
+    let p = c .before .pre in
+    let a = c .before .args in
+    ap (λ (l : List ℕ). getD l (a .g * (a .g + 1) / 2 + a .i) 0) (p .0) ∙ place-holds _ _ (p .1) (p .2)
 
 pub coefficient-spec : {M : Type 1} → statement M
-coefficient-spec = tie.close (tie.spec (λ c. search needs) mul-entry add-entry-2 entry-requires returns)
+coefficient-spec = tie.close (tie.spec (λ c. search needs) mul-result add-result-2 mul-result-2 element-copy-out-result returns)

@@ -7,10 +7,10 @@ use Rattle.rows.proofs.expand_row.Statement.{statement}
 use Rattle.rows.proofs.expand_row.Tie as tie
 
 abbrev Inv-loop : tie.InvT-loop
-Inv-loop sheet at n m sum₀ i₀ sum i = (i ≤ m) × Left sheet at n m sum i
+Inv-loop sheet binomials at n m sum₀ i₀ sum i = (i ≤ m) × Left sheet at n m sum i
 
 abbrev μ-loop : tie.MeasureT-loop
-μ-loop sheet at n m sum₀ i₀ sum i = m - i
+μ-loop sheet binomials at n m sum₀ i₀ sum i = m - i
 
 loop-holds : tie.Need-loop-holds Inv-loop μ-loop
 loop-holds c = (omega arith, none-summed _ _ _ _)
@@ -24,7 +24,7 @@ loop-again c =
     let head = turn .before in
     let i = head .loop .inv in
     let l = turn .loop-test .taken in
-    (omega arith, summed _ _ _ _ _ _ (i .1) _ (search needs) l (head .before .before .pre .1) (load .load .ensures) _ _ _ (coefficient .coefficient .ensures) (times .times .ensures) (c .wrapping-add-u64 .ensures))
+    (omega arith, summed _ _ _ _ _ _ (i .1) _ (search needs) l (head .before .before .pre .2) (load .load .ensures) _ _ _ (coefficient .coefficient .ensures) (times .times .ensures) (c .wrapping-add-u64 .ensures))
 
 returns : tie.Need-returns Inv-loop μ-loop
 returns c =
