@@ -1,7 +1,7 @@
 -- The laws of answers, of a run of checks, and of a search. Assumes nothing.
 use Prim.Native.Nat.{ℕ, zero, suc, _<_}
-use mathlib.Core.Path.{_≡_, refl, sym, _∙_, subst}
-use mathlib.Core.Logic.{_⊎_, inl, inr}
+use mathlib.Core.Path.{_≡_, refl, sym, ap, _∙_, subst}
+use mathlib.Core.Logic.{_⊎_, inl, inr, _↔_}
 use mathlib.Core.Bool.{Bool, true, false, cond, _||_, true≢false}
 use native.Mathlib.Omega.{arith}
 use Rattle.words.proofs.Cases.{less, same, more, tri, or-either}
@@ -23,6 +23,15 @@ then-some (refusal r p) f e = absurd (refused-not e)
 
 pub then-value : {B : Type 0} (a : Answer (Unit {0})) (f : Unit {0} → Answer B) {b : B} → andThen a f ≡ value b → (a ≡ pass) × (f tt ≡ value b)
 then-value a f e = let s = then-some a f e in (s .1, s .2)
+
+-- what always goes on to a value refuses as its first step does, and only so
+pub then-refused : {A B : Type 0} (a : Answer A) (f : A → B) (number place : ℕ) → (andThen a (λ v. value (f v)) ≡ refusal number place) ↔ (a ≡ refusal number place)
+unfolding andThen
+then-refused {A = A} a f number place = (back a, λ e. ap (λ b. andThen b (λ v. value (f v))) e)
+  where
+    back : (a : Answer A) → andThen a (λ v. value (f v)) ≡ refusal number place → a ≡ refusal number place
+    back (value v) e = absurd (refused-not (sym e))
+    back (refusal number′ place′) e = let i : number′ ≡ number = cc in let j : place′ ≡ place = cc in rw (i, j)
 
 -- a refusal on a condition, and then more
 pub then-unless : {A B : Type 0} (b : Bool) (r p : ℕ) (v : A) (f : A → Answer B) → andThen (cond b (refusal r p) (value v)) f ≡ cond b (refusal r p) (f v)

@@ -14,7 +14,7 @@ use Rattle.diagram.specs.Format.{Words, settings, nodes}
 use Rattle.diagram.specs.Meaning.{permitted}
 use Rattle.diagram.specs.Count.{total}
 use Rattle.diagram.specs.Answer.{Answer, value, refusal, andThen}
-use Rattle.diagram.proofs.AnswerLaws.{refused-not, value-inj, then-some}
+use Rattle.diagram.proofs.AnswerLaws.{refused-not, value-inj, then-some, then-refused}
 use Rattle.diagram.proofs.Refusals.{passes, then-refuses}
 use Rattle.checking.specs.Operations.{checking, testSetup, testing, blank}
 use Rattle.checking.specs.Sheets.{HandedBack}
@@ -64,12 +64,10 @@ module _ (t s : List ℕ) (x : ℕ) where
 
   -- it refuses what the test refuses, and nothing else: there is no 13
   pub refused-alike : (number place : ℕ) → (rulingOut t x s ≡ refusal number place) ↔ (testing t x s ≡ refusal number place)
-  unfolding andThen
-  refused-alike number place = (λ e. back (testing t x s) (sym after-test ∙ e), λ e. after-test ∙ ap (λ a. andThen a (λ _. value (finding P n x))) e)
+  refused-alike number place = (λ e. law .0 (sym after-test ∙ e), λ e. after-test ∙ law .1 e)
     where
-      back : (a : Answer Bool) → andThen a (λ _. value (finding P n x)) ≡ refusal number place → a ≡ refusal number place
-      back (value b) e = absurd (refused-not (sym e))
-      back (refusal number′ place′) e = let i : number′ ≡ number = cc in let j : place′ ≡ place = cc in rw (i, j)
+      law : (andThen (testing t x s) (λ _. value (finding P n x)) ≡ refusal number place) ↔ (testing t x s ≡ refusal number place)
+      law = then-refused (testing t x s) (λ _. finding P n x) number place
 
   -- what is answered as permitted is what the test permits
   pub permitted-alike : (rulingOut t x s ≡ value isPermitted) ↔ (testing t x s ≡ value true)

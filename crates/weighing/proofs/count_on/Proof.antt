@@ -10,7 +10,7 @@ use Rattle.checking.proofs.Accepting.{handed-on, table-long, table-holds, table
 use Rattle.checking.proofs.Lending.{begins-for, handed-back, places-left, blanked, lent-past}
 use Rattle.diagram.specs.Answer.{value}
 use Rattle.pascal.specs.Ones.{countOn}
-use Rattle.weighing.specs.Operations.{needed, countingOn}
+use Rattle.weighing.specs.Operations.{needed, totalOn, countingOn}
 use Rattle.weighing.proofs.count_on.Statement.{statement}
 use Rattle.weighing.proofs.count_on.Tie as tie
 
@@ -22,7 +22,7 @@ begins : (c : tie.After-begin-with) → let a = c .before .before .before .befor
 begins c = begins-for needed (λ N. omega arith) (c .begin-with .ensures)
 
 returns : tie.Need-returns
-unfolding countingOn
+unfolding countingOn totalOn
 returns c =
     let told = c .before in
     let B = begins (told .before .before .before .before) in
@@ -82,7 +82,7 @@ blank-requires c κs =
     omega (arith, sizes a .1, length-front (begun a .begin-with .last .1 .0) (w .last .1 .0) (8 * needed (a .header-of .result .nodes)) (w .kept .1 .0))
 
 returns-2 : tie.Need-returns-2
-unfolding countingOn
+unfolding countingOn totalOn
 returns-2 c =
     let blank = c .before .before in
     let inner = blank .before .before .before .before in
