@@ -30,7 +30,7 @@ static FILE *opened(const char *path, const char *mode)
 
 static void read_instructions(const char *path, struct results *r)
 {
-    unsigned w, op, side, lines = 0, all = (3 * OPERATIONS + ROWS + LOOSE) * SIDES, two = WORKLOADS, loose = two + ROWS;
+    unsigned w, op, side, lines = 0, all = (4 * OPERATIONS + ROWS + LOOSE) * SIDES, two = WORKLOADS, loose = two + ROWS;
     double count;
     FILE *f = opened(path, "r");
     for (; fscanf(f, "%u %u %u %lf", &w, &op, &side, &count) == 4; lines++) {

@@ -1,5 +1,5 @@
 /* The operations by number, of the library ("ours") and of plain.c ("plain C"): of span the size; unrank-list twice, for
- * two lists. */
+ * two lists, and count-on twice, for 3 and for 31 settings on. */
 #ifndef CALLS_H
 #define CALLS_H
 
@@ -8,7 +8,7 @@
 
 /* OPERATIONS: those on one table that has to be proper. Then the one on a loose table, and those on two. */
 enum operation {
-    CHECK, COUNT, TEST, RANK, UNRANK, SPAN, PART_WRITE, LIST_SPREAD, LIST_ROW, RULED_OUT, OPERATIONS,
+    CHECK, COUNT, TEST, RANK, UNRANK, SPAN, PART_WRITE, LIST_SPREAD, LIST_ROW, RULED_OUT, COUNT_ON_3, COUNT_ON_31, OPERATIONS,
     MAKE_PROPER = OPERATIONS, JOINED, SHARED, WITHOUT
 };
 enum side { OURS, PLAIN, SIDES };
@@ -17,8 +17,8 @@ enum side { OURS, PLAIN, SIDES };
 #define PART 3
 #define ITEMS 8192 /* numbers of the lists that are timed */
 
-/* The memories lent to a call. A list's setups go to the out memory; its answer, ruled-out's, make-proper's and that of an
- * operation on two tables have three words. Only the latter has a second table, its sheet and a pair sheet. */
+/* The memories lent to a call. A list's setups go to the out memory; its answer, ruled-out's, count-on's, make-proper's and
+ * that of an operation on two tables have three words. Only the latter has a second table, its sheet and a pair sheet. */
 struct lent {
     const uint8_t *table;
     size_t table_len;
@@ -37,7 +37,7 @@ struct lent {
     size_t pairs_len;
 };
 
-/* The numbers of a call: a setup or a rank in `a`; the number of parts and the part for span and
+/* The numbers of a call: a setup, a rank or how many settings are on in `a`; the number of parts and the part for span and
  * part-write; none for a list and for make-proper. */
 struct numbers {
     uint64_t a, b;
@@ -46,8 +46,10 @@ struct numbers {
 const char *operation_name(enum operation op);
 int is_list(enum operation op);
 int is_of_part(enum operation op); /* span or part-write */
+int is_count_on(enum operation op);
 
-/* The sheet for a table of N records: N + 1 places, N + 512 for part-write, and 8 * N + 512 for make-proper. */
+/* The sheet for a table of N records: N + 1 places, N + 512 for part-write, 64 * (N + 1) for count-on, and 8 * N + 512 for
+ * make-proper. */
 size_t sheet_len_of(enum operation op, uint32_t count);
 
 /* An operation on one table; one on two. */

@@ -9,7 +9,7 @@
 #include "memory.h"
 
 #define CALLS 24
-#define DAMAGED 28
+#define DAMAGED 29
 
 /* The memories of the two sides. */
 struct pair {
@@ -51,7 +51,21 @@ static void compare_call(const struct table *t, struct pair *p, enum operation o
     p->calls++;
 }
 
-/* Call i of CALLS: the first ones at the ends of the ranges, the others random. */
+/* How many settings are on in call i of count-on: 0 to n + 1, then three that are higher. */
+static uint64_t on_of(const struct table *t, int i)
+{
+    static const uint64_t higher[] = {64, (uint64_t)1 << 32, ~(uint64_t)0};
+    int above = i - (int)t->settings - 2;
+    return above < 0 ? (uint64_t)i : higher[above];
+}
+
+/* How many calls of an operation have numbers of their own; those of count-on are compared once for its two rows. */
+static int calls_of(enum operation op, const struct table *t)
+{
+    return op == COUNT_ON_3 ? (int)t->settings + 5 : op == COUNT_ON_31 ? 0 : CALLS;
+}
+
+/* Call i of them: the first ones at the ends of the ranges, the others random. */
 static struct numbers numbers_of(enum operation op, const struct table *t, struct pair *p, int i)
 {
     uint64_t count = t->total, all = (uint64_t)1 << t->settings, r = next_random(&p->seed);
@@ -63,6 +77,7 @@ static struct numbers numbers_of(enum operation op, const struct table *t, struc
         return i < 8 ? parts[i] : (struct numbers){k, next_random(&p->seed) % k};
     }
     if (is_list(op)) return (struct numbers){i, 0}; /* for a message alone */
+    if (is_count_on(op)) return (struct numbers){on_of(t, i), 0};
     if (i < 6) return (struct numbers){op == UNRANK ? ranks[i] : setups[i], 0};
     if (i < 14 && op != UNRANK) return (struct numbers){r >> (64 - t->settings), 0};
     return draw_numbers(op, t, &p->of[PLAIN], &p->seed);
@@ -123,7 +138,7 @@ static void damage_word(uint8_t *table, uint64_t k, uint64_t bit, int kind)
     put_word(table, k, word);
 }
 
-/* Damage i of DAMAGED: a wrong length, a short sheet or out memory, the header, a record, or the last one. */
+/* Damage i of DAMAGED: a wrong length, a short sheet or out memory, the header, a record, the last one, or a place too few. */
 static void damage(const struct table *t, struct pair *p, enum operation op, int i)
 {
     uint64_t k = next_random(&p->seed) % t->count + 1, bit = next_random(&p->seed) % 64;
@@ -140,6 +155,7 @@ static void damage(const struct table *t, struct pair *p, enum operation op, int
         if (i > 6 && i < 12) damage_word((uint8_t *)m->table, 0, bit, 0);
         if (i >= 12 && i < 27) damage_word((uint8_t *)m->table, k, bit, i < 18 ? 0 : i % 3);
         if (i == 27) damage_word((uint8_t *)m->table, t->count, bit, 3);
+        if (i == 28) m->sheet_len = sheet_len_of(op, t->count) - 8;
     }
 }
 
@@ -157,9 +173,10 @@ static void restore(const struct table *t, struct pair *p, enum operation op)
 
 unsigned compare(const struct table *t)
 {
-    struct pair p = {{lend(t), lend(t)}, t->count, 0};
+    struct pair p = {{{0}}, t->count, 0};
     for (int op = 0; op < OPERATIONS; op++) {
-        for (int i = 0; i < CALLS; i++) {
+        for (int side = 0; side < SIDES; side++) p.of[side] = lend(t, op);
+        for (int i = 0; i < calls_of(op, t); i++) {
             restore(t, &p, op);
             struct numbers x = numbers_of(op, t, &p, i);
             if (is_list(op)) change_list(&p, list_of(t, &p, i));
@@ -171,9 +188,8 @@ unsigned compare(const struct table *t)
             damage(t, &p, op, i);
             compare_call(t, &p, op, x);
         }
+        for (int side = 0; side < SIDES; side++) give_back(&p.of[side]);
     }
-    give_back(&p.of[OURS]);
-    give_back(&p.of[PLAIN]);
     return p.calls;
 }
 
@@ -193,7 +209,7 @@ static void compare_out(const struct table *t, struct pair *p, size_t result)
 unsigned compare_loose(const struct loose *l)
 {
     const struct table *t = &l->table, *proper = &l->proper;
-    struct pair p = {{lend_loose(t), lend_loose(t)}, t->count, 0};
+    struct pair p = {{lend(t, MAKE_PROPER), lend(t, MAKE_PROPER)}, t->count, 0};
     struct numbers none = {0, 0};
     compare_call(t, &p, MAKE_PROPER, none);
     size_t result = p.of[PLAIN].answer[0];

@@ -13,11 +13,10 @@
 static void count_workload(enum workload w)
 {
     struct table t = workload(w);
-    struct lent m = lend(&t);
     for (int op = 0; op < OPERATIONS; op++) {
         struct numbers x[COUNTED_CALLS];
         uint64_t seed = op + 1;
-        lend_for(&m, op, &t);
+        struct lent m = lend(&t, op);
         for (int i = 0; i < COUNTED_CALLS; i++) x[i] = draw_numbers(op, &t, &m, &seed);
         for (int side = 0; side < SIDES; side++) {
             char name[64];
@@ -26,8 +25,8 @@ static void count_workload(enum workload w)
             for (int i = 0; i < COUNTED_CALLS; i++) call(side, op, &m, x[i]);
             CALLGRIND_DUMP_STATS_AT(name);
         }
+        give_back(&m);
     }
-    give_back(&m);
 }
 
 static void count_row(enum row r)
@@ -47,7 +46,7 @@ static void count_row(enum row r)
 static void count_loose(enum loose_row r)
 {
     struct loose l = loose_row(r);
-    struct lent m = lend_loose(&l.table);
+    struct lent m = lend(&l.table, MAKE_PROPER);
     struct numbers none = {0, 0};
     for (int side = 0; side < SIDES; side++) {
         char name[64];
@@ -64,6 +63,7 @@ int main(void)
 {
     CALLGRIND_START_INSTRUMENTATION;
     count_workload(PATH_63);
+    count_workload(EXACTLY_31);
     count_workload(MIDDLE);
     count_workload(WIDE);
     for (int r = 0; r < ROWS; r++) count_row(r);

@@ -29,8 +29,7 @@ static const uint8_t *copy_of(const struct table *t)
     return memcpy(pages(t->len), t->bytes, t->len);
 }
 
-/* With a sheet that is long enough for this operation, and set for it. */
-static struct lent lend_sheet(const struct table *t, enum operation op)
+struct lent lend(const struct table *t, enum operation op)
 {
     struct lent m = {0};
     m.table = copy_of(t);
@@ -41,16 +40,6 @@ static struct lent lend_sheet(const struct table *t, enum operation op)
     m.answer = (uint64_t *)pages(ANSWER);
     lend_for(&m, op, t);
     return m;
-}
-
-struct lent lend(const struct table *t)
-{
-    return lend_sheet(t, PART_WRITE);
-}
-
-struct lent lend_loose(const struct table *t)
-{
-    return lend_sheet(t, MAKE_PROPER);
 }
 
 /* ITEMS ascending numbers: drawn over the whole count, or neighbours in its middle. A small table's own are repeated. */
@@ -117,6 +106,7 @@ struct numbers draw_numbers(enum operation op, const struct table *t, const stru
     uint64_t r = next_random(seed), rank = r % t->total;
     if (is_of_part(op)) return (struct numbers){PARTS, PART};
     if (is_list(op)) return (struct numbers){0, 0};
+    if (is_count_on(op)) return (struct numbers){op == COUNT_ON_3 ? 3 : 31, 0};
     if (op == UNRANK) return (struct numbers){rank, 0};
     if (op == TEST && next_random(seed) >> 63) return (struct numbers){r >> (64 - t->settings), 0};
     uint64_t permitted = call(PLAIN, UNRANK, m, (struct numbers){rank, 0});

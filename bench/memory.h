@@ -7,9 +7,8 @@
 #define GUARD 64 /* bytes behind each memory; no call may touch those that it is not lent */
 #define ANSWER 24 /* bytes of an answer in three words */
 
-/* Memory for any operation on this table but make-proper; the lengths lent and the list are set for one operation. */
-struct lent lend(const struct table *t);
-struct lent lend_loose(const struct table *t); /* for make-proper */
+/* Memory for an operation on this table. Its lengths and the list are set by lend_for, again where they were changed. */
+struct lent lend(const struct table *t, enum operation op);
 void lend_for(struct lent *m, enum operation op, const struct table *t);
 void give_back(struct lent *m);
 

@@ -9,6 +9,7 @@
 #define BAR 1.3
 #define PART_WRITE_BAR 1.5
 #define LIST_BAR 1.5
+#define COUNT_ON_BAR 1.5
 #define TWO_BAR 2.5
 #define PROPER_BAR 1.5
 #define LOOSE_BAR 2.0
@@ -19,6 +20,7 @@
 #define GROWTH_BAR 1.5      /* ours a record at 65,535 / at 4,000 */
 #define SINGLE_BAR 300.0    /* single calls / the list */
 #define ROW_BAR (1.0 / 3.0) /* numbers in a row / spread */
+#define FEW_BAR 0.25        /* 3 settings on / 31 */
 
 /* The processor's model, of /proc/cpuinfo. */
 static void print_machine(void)
@@ -46,6 +48,7 @@ static void print_medians(const struct results *r)
     printf("## Times\n\n"
            "Medians in µs a call, ours and plain C by turns, of the quietest of five passes; ratio = ours / plain C.\n"
            "Span and part-write: part %d of %d. A list has %d numbers, drawn over the whole count, or neighbours in its middle.\n"
+           "Count on: exactly 3 settings on, or 31; its sheet has 64 places a node.\n"
            "Warm: the same memory again and again. Cleared: before each call sheet and out memory are zeroed, and they,\n"
            "the table and the list are flushed from the caches.\n\n"
            "| table       |      N | operation     | ours warm | plain warm | ratio | ours cleared | plain cleared | ratio |\n"
@@ -113,9 +116,18 @@ static void print_list_bars(const struct results *r)
     print_bar("list in a row", "row / spread, instructions less span's", "<", ROW_BAR, (row - span) / (spread - span));
 }
 
+/* The bar on 31 of 63, and few settings on beside many. */
+static void print_count_on_bars(const struct results *r)
+{
+    double few = r->instructions[WIDE][COUNT_ON_3][OURS], many = r->instructions[WIDE][COUNT_ON_31][OURS];
+    const double *exactly = r->instructions[EXACTLY_31][COUNT_ON_31];
+    print_bar("count on, 31", "31 of 63: ours / plain C, instructions", "≤", COUNT_ON_BAR, exactly[OURS] / exactly[PLAIN]);
+    print_bar("count on, 3", "3 on / 31 on, instructions", "≤", FEW_BAR, few / many);
+}
+
 static double bar_of(enum operation op)
 {
-    return op == PART_WRITE ? PART_WRITE_BAR : is_list(op) ? LIST_BAR : BAR;
+    return op == PART_WRITE ? PART_WRITE_BAR : is_list(op) ? LIST_BAR : is_count_on(op) ? COUNT_ON_BAR : BAR;
 }
 
 static void print_bars_head(const char *tables, const char *more)
@@ -129,9 +141,10 @@ static void print_bars(const struct results *r)
 {
     print_bars_head("the wide table", "");
     for (int op = 0; op < OPERATIONS; op++)
-        print_bar(operation_name(op), "ours / plain C, instructions", op == LIST_ROW ? "" : "≤", bar_of(op),
-                  r->instructions[WIDE][op][OURS] / r->instructions[WIDE][op][PLAIN]);
+        print_bar(operation_name(op), "ours / plain C, instructions", op == LIST_ROW || op == COUNT_ON_3 ? "" : "≤",
+                  bar_of(op), r->instructions[WIDE][op][OURS] / r->instructions[WIDE][op][PLAIN]);
     print_list_bars(r);
+    print_count_on_bars(r);
     print_bar("count", "BuDDy's whole job / ours", "≥", BUDDY_BAR, r->buddy[WIDE][WHOLE] / r->buddy[WIDE][BESIDE]);
     printf("\n");
 }

@@ -105,10 +105,9 @@ static void time_lent(enum operation op, enum condition c, const struct lent *m,
 
 void time_both(const struct table *t, enum operation op, enum condition c, double seconds, double *micros)
 {
-    struct lent m = lend(t);
+    struct lent m = lend(t, op);
     struct numbers x[2 * DRAWN];
     uint64_t seed = op + 1;
-    lend_for(&m, op, t);
     for (int i = 0; i < DRAWN; i++) x[i] = x[i + DRAWN] = draw_numbers(op, t, &m, &seed);
     time_lent(op, c, &m, x, c == WARM && !is_list(op) ? 1 + 2000 / (t->count + 1) : 1, seconds, micros);
     give_back(&m);
@@ -118,7 +117,7 @@ static const struct numbers none[2 * DRAWN];
 
 void time_loose(const struct table *t, enum condition c, double seconds, double *micros)
 {
-    struct lent m = lend_loose(t);
+    struct lent m = lend(t, MAKE_PROPER);
     time_lent(MAKE_PROPER, c, &m, none, 1, seconds, micros);
     give_back(&m);
 }

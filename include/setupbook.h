@@ -1,6 +1,7 @@
 /*
- * The setup book: rank, unrank, also of a list, the settings that rule a setup out, part-write, two
- * tables made into one, and a loose table made proper, over reduced OBDDs with complement edges.
+ * The setup book: rank, unrank, also of a list, the setups by how many settings are on, the settings
+ * that rule a setup out, part-write, two tables made into one, and a loose table made proper, over
+ * reduced OBDDs with complement edges.
  *
  * A table is a decision diagram over n settings (0 to 63) with N nodes (0 to 65,535) as a row of
  * N + 1 words of 64 bits, most significant byte first; docs/FORMAT.md has the fields. It permits
@@ -33,17 +34,18 @@
  *
  * Memory: `table` has table_len bytes and is only read, and so is the list `ranks`. `sheet` is a
  * work sheet of sheet_len bytes: 8 * (N + 1) are needed, as many as an accepted table has, for
- * part-write 8 * (N + 512), and for a loose table 8 * (8 * N + 512). `out` receives the part or the
- * result: 8 * (N' + 1) of its out_len bytes are needed. `pairs` is the pair sheet: 32 bytes a pair
- * are needed. `setups` receives a list of as many items as `ranks` has. These memories share no byte,
- * but two tables may be the same one or overlap, and nobody else writes them during a call. No
- * pointer is null; none needs an alignment but `answer`, that of its numbers. Lengths and contents
- * may be any: there is nothing to check before a call. A call allocates nothing, keeps nothing and
- * takes about 70 KiB of stack.
+ * part-write 8 * (N + 512), for count-on 512 * (N + 1), and for a loose table 8 * (8 * N + 512).
+ * `out` receives the part or the result: 8 * (N' + 1) of its out_len bytes are needed. `pairs` is
+ * the pair sheet: 32 bytes a pair are needed. `setups` receives a list of as many items as `ranks`
+ * has. These memories share no byte, but two tables may be the same one or overlap, and nobody else
+ * writes them during a call. No pointer is null; none needs an alignment but `answer`, that of its
+ * numbers. Lengths and contents may be any: there is nothing to check before a call. A call allocates
+ * nothing, keeps nothing and takes about 70 KiB of stack.
  *
  * Sheet afterwards: unchanged by refusals 1 to 8, and 10. After everything else, a result or a
- * refusal, the words that the call requires are zero: N + 1, N + 512 for part-write, and 8 * N + 512
- * for a loose table. All other bytes are unchanged. No call depends on what the sheet held before.
+ * refusal, the words that the call requires are zero: N + 1, N + 512 for part-write, 64 * (N + 1) for
+ * count-on, and 8 * N + 512 for a loose table. All other bytes are unchanged. No call depends on what
+ * the sheet held before.
  * With two tables each sheet is as its own table's check leaves it, so sheet1 is zero where table2
  * is refused, and sheet2 is unchanged where table1 is. `pairs` is unchanged by a table's refusal and
  * by 19; after everything else all its pairs_len / 8 words are zero, and up to seven bytes behind
@@ -63,8 +65,8 @@
  *      2  N is above 65,535
  *      1  table_len is not 8 * (N + 1)
  *      3  the root edge does not lead to node N; of a loose table: it leads to a node above N
- *     10  sheet_len is under 8 * (N + 1), for part-write under 8 * (N + 512), for a loose table under
- *         8 * (8 * N + 512)
+ *     10  sheet_len is under 8 * (N + 1), for part-write under 8 * (N + 512), for count-on under
+ *         512 * (N + 1), for a loose table under 8 * (8 * N + 512)
  *         then for record 1, record 2, ... to N:
  *      4    its height is 0 or above n
  *      6    an edge leads to a node not below k, or to a height not below its own; of a loose table:
@@ -102,6 +104,11 @@ uint64_t setupbook_rank(const uint8_t *table, size_t table_len, uint64_t setup,
 /* The permitted setup that has this rank. Refusals 1 to 10, 14. */
 uint64_t setupbook_unrank(const uint8_t *table, size_t table_len, uint64_t rank,
                           uint8_t *sheet, size_t sheet_len);
+
+/* How many permitted setups have exactly m settings on, in answer[0]: below 2^63, and 0 if m is above
+ * n. Over all m from 0 to n these add up to C. Refusals 1 to 10. */
+uint64_t setupbook_count_on(const uint8_t *table, size_t table_len, uint64_t m,
+                            uint8_t *sheet, size_t sheet_len, uint64_t answer[3]);
 
 /* The settings that rule a setup out. answer[0] is 0 if the setup is permitted, 1 if nothing is, or
  * 2, with p in answer[1] and a setup in answer[2]: p, from 1 to n, is the smallest number such that
@@ -155,11 +162,17 @@ uint64_t setupbook_make_proper(const uint8_t *table, size_t table_len,
 /* The length of the longest table, N = 65,535: out memory that is never too short. */
 #define SETUPBOOK_LONGEST 524288
 
-/* The sheet that serves an accepted table of this length in every call but setupbook_make_proper:
- * N + 512 words. */
+/* The sheet that serves an accepted table of this length in every call but setupbook_count_on and
+ * setupbook_make_proper: N + 512 words. */
 static inline size_t setupbook_sheet_len(size_t table_len)
 {
     return table_len + 4088;
+}
+
+/* The sheet that serves an accepted table of this length in setupbook_count_on: 64 * (N + 1) words. */
+static inline size_t setupbook_count_sheet_len(size_t table_len)
+{
+    return 64 * table_len;
 }
 
 /* The sheet that serves a loose table of this length in setupbook_make_proper: 8 * N + 512 words. */

@@ -8,6 +8,7 @@ use crate::layout::words_of;
 pub enum Call<'a> {
     Check,
     Count,
+    CountOn { m: u64 },
     Test { setup: u64 },
     RuledOut { setup: u64 },
     Rank { setup: u64 },
@@ -23,6 +24,7 @@ impl<'a> Call<'a> {
     /// How many places of the sheet the call requires, for a table of `node_count` records.
     pub fn places(self, node_count: u64) -> u64 {
         match self {
+            Call::CountOn { .. } => 64 * (node_count + 1),
             Call::PartWrite { .. } => node_count + 512,
             Call::MakeProper => 8 * node_count + 512,
             _ => node_count + 1,

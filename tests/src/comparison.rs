@@ -3,7 +3,7 @@
 use std::time::Instant;
 
 use crate::call::{Answer, Call, List, Outcome};
-use crate::layout::bytes_of;
+use crate::layout::{bytes_of, settings};
 use crate::library::Lent;
 use crate::lists;
 use crate::paper;
@@ -140,9 +140,10 @@ impl Comparison {
 
     /// The same, all in the same memories and each after a count, which leaves the counts there.
     pub fn compare_in_turn(&mut self, table: &[u8]) {
-        // No call needs a longer sheet.
-        let needed = sheets::needed(Call::MakeProper, table);
-        let sheet_len = sheets::served_length(&mut self.rng, needed);
+        // No call needs a longer sheet than one of these.
+        let [one, other] =
+            [Call::MakeProper, Call::CountOn { m: 0 }].map(|call| sheets::needed(call, table));
+        let sheet_len = sheets::served_length(&mut self.rng, one.max(other));
         let sheet = sheets::filling(&mut self.rng, sheet_len);
         let out = sheets::filling(&mut self.rng, table.len() + 100);
         let mut lent = self.lend(table, &sheet, &out);
@@ -156,6 +157,7 @@ impl Comparison {
     fn each_call(&mut self, table: &[u8], mut make: impl FnMut(&mut Comparison, Call)) {
         let mut calls = vec![Call::Check, Call::Count];
         calls.extend([Call::MakeProper; 2]);
+        calls.extend(self.numbers_on(table).map(|m| Call::CountOn { m }));
         for setup in self.setups(table) {
             calls.extend([
                 Call::Test { setup },
@@ -190,8 +192,7 @@ impl Comparison {
 
     /// 0, 2^n - 1, 2^n, 2^64 - 1, one below 2^n and any one.
     fn setups(&mut self, table: &[u8]) -> Vec<u64> {
-        let n = table.first().map_or(0, |byte| byte / 4);
-        let limit = 1u64 << n;
+        let limit = 1u64 << settings(table);
         vec![
             0,
             limit - 1,
@@ -200,6 +201,13 @@ impl Comparison {
             self.rng.below(limit),
             self.rng.word(),
         ]
+    }
+
+    /// Numbers of settings on: one up to n, and one at a border or any.
+    fn numbers_on(&mut self, table: &[u8]) -> [u64; 2] {
+        let (n, any) = (settings(table), self.rng.word());
+        let border = self.rng.pick(&[0, n, n + 1, 64, 1 << 32, u64::MAX, any]);
+        [self.rng.below(n + 1), border]
     }
 
     /// 0, C - 1, C, 2^64 - 1, one below C and any one; of a refused table without C.

@@ -10,6 +10,7 @@ use crate::combined::Reading;
 use crate::combining;
 use crate::comparison::{difference, random_part};
 use crate::fuzz_two::{self, Places};
+use crate::layout::settings;
 use crate::library;
 use crate::lists;
 use crate::pages::{self, Guard, Pages};
@@ -22,8 +23,8 @@ use crate::tally::{
 };
 
 const LONGEST_TABLE: usize = raw::LONGEST + 8;
-/// The longest sheet: make-proper's for the longest table, and some bytes more.
-const LONGEST_SHEET: usize = 8 * raw::LONGEST + 8 * 512 + 4096;
+/// The longest sheet: count-on's for the longest table, and some bytes more. No memory is longer.
+const LONGEST_SHEET: usize = 64 * (LONGEST_TABLE + 8) + 4096;
 const LONGEST_OUT: usize = raw::LONGEST + 8 * 256 + 4096;
 /// The longest memories of a call on two tables; the longest tables may need longer ones.
 const LONGEST_OF_TWO: Memories<usize> = Memories {
@@ -110,9 +111,9 @@ impl Fuzz {
             seed,
             source: Source::new(&mut rng),
             contents: [
-                vec![0; LONGEST_PAIRS],
-                vec![0xFF; LONGEST_PAIRS],
-                sheets::filling(&mut rng, LONGEST_PAIRS),
+                vec![0; LONGEST_SHEET],
+                vec![0xFF; LONGEST_SHEET],
+                sheets::filling(&mut rng, LONGEST_SHEET),
             ],
             table: Pages::new(LONGEST_TABLE),
             list: Pages::new(8 * MOST_ITEMS as usize + 8),
@@ -140,7 +141,7 @@ impl Fuzz {
             }
             i if i < ONE_TABLE.len() as u64 => {
                 let (table, is_raw) = self.source.table(&mut rng);
-                let limit = 1 << table.first().map_or(0, |byte| byte / 4);
+                let limit = 1 << settings(&table);
                 let list = list(&mut rng, limit);
                 let call = any_call(&mut rng, limit, List(&list));
                 self.call_on_one(&mut rng, guard, call, &table, is_raw)
@@ -295,6 +296,9 @@ fn any_call<'a>(rng: &mut Rng, limit: u64, list: List<'a>) -> Call<'a> {
         6 => Call::SpanStart { k, j },
         7 => Call::SpanSize { k, j },
         8 => Call::RuledOut { setup: number },
+        9 => Call::CountOn {
+            m: number_on(rng, limit),
+        },
         _ => Call::PartWrite { k, j },
     }
 }
@@ -310,6 +314,14 @@ fn number(rng: &mut Rng, limit: u64) -> u64 {
             .wrapping_sub(1),
         8 => u64::MAX - rng.below(4),
         _ => rng.word(),
+    }
+}
+
+/// A number of settings on; most are at most one above n.
+fn number_on(rng: &mut Rng, limit: u64) -> u64 {
+    match rng.below(4) {
+        0 => number(rng, limit),
+        _ => rng.below(u64::from(limit.ilog2()) + 2),
     }
 }
 

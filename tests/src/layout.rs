@@ -13,6 +13,11 @@ pub fn fields(word: u64) -> (u64, u64, u64) {
     (word >> 58, (word >> 29) & EDGE_BITS, word & EDGE_BITS)
 }
 
+/// The n of a table, whatever its length is.
+pub fn settings(table: &[u8]) -> u64 {
+    table.first().map_or(0, |byte| byte / 4).into()
+}
+
 /// The bytes of a row of words, most significant first.
 pub fn bytes_of(words: &[u64]) -> Vec<u8> {
     words.iter().flat_map(|word| word.to_be_bytes()).collect()

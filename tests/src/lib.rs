@@ -6,12 +6,13 @@
 //! - `paper`: the paper, straight; `reading`: a table, `part`: the table of a part, `loose`: the proper
 //!   table of a loose one, `combined`: two tables made into one, and `listing`: what `setuplist`
 //!   prints, after it
+//! - `pascal`: Pascal's triangle
 //! - `diagram`: diagrams without flags, from which tables are written
 //! - `library`: the library under test; `memory`: what is lent to it, guarded; `program`: the
 //!   programs, run
 //! - `tables`: accepted tables; `loosening`: loose ones; `damage`: tables with faults; `sheets`: sheets
 //!   and out memories; `lists`: lists of numbers
-//! - `layout`: words, bytes and the fields of a word
+//! - `layout`: words, bytes and the fields of a word; `files`: where files are found
 //! - `comparison`: runs a call on both sides; `combining`: one on two tables; `tally`: which cases
 //!   have been met
 //! - `fuzz`: calls on raw bytes; `fuzz_two`: those on two tables; `raw`: these bytes; `pages`: what is
@@ -25,6 +26,7 @@ pub mod combining;
 pub mod comparison;
 pub mod damage;
 pub mod diagram;
+pub mod files;
 pub mod fuzz;
 pub mod fuzz_two;
 pub mod layout;
@@ -37,6 +39,7 @@ pub mod memory;
 pub mod pages;
 pub mod paper;
 pub mod part;
+pub mod pascal;
 pub mod program;
 pub mod raw;
 pub mod reading;

@@ -41,6 +41,14 @@ mod ffi {
             sheet: *mut u8,
             sheet_len: usize,
         ) -> u64;
+        pub fn setupbook_count_on(
+            table: *const u8,
+            table_len: usize,
+            m: u64,
+            sheet: *mut u8,
+            sheet_len: usize,
+            answer: *mut u64,
+        ) -> u64;
         pub fn setupbook_ruled_out(
             table: *const u8,
             table_len: usize,
@@ -230,6 +238,9 @@ pub unsafe fn call_with(
         Call::Test { setup } => ffi::setupbook_test(t, t_len, setup, s, s_len),
         Call::Rank { setup } => ffi::setupbook_rank(t, t_len, setup, s, s_len),
         Call::Unrank { rank } => ffi::setupbook_unrank(t, t_len, rank, s, s_len),
+        Call::CountOn { m } => {
+            return in_words(|answer| ffi::setupbook_count_on(t, t_len, m, s, s_len, answer))
+        }
         Call::RuledOut { setup } => {
             return in_words(|answer| ffi::setupbook_ruled_out(t, t_len, setup, s, s_len, answer))
         }

@@ -131,7 +131,11 @@ pub fn table_refusals(call: Call, table: &[u8], sheet_len: usize) -> Vec<Refusal
 fn examiner_refusal(call: Call, n: Option<u8>, settled: Option<&Settled>) -> Option<u64> {
     let outside = |setup| n.is_some_and(|n| setup >= 1u64 << n);
     match call {
-        Call::Check | Call::Count | Call::UnrankList { .. } | Call::MakeProper => None,
+        Call::Check
+        | Call::Count
+        | Call::CountOn { .. }
+        | Call::UnrankList { .. }
+        | Call::MakeProper => None,
         Call::Test { setup } | Call::RuledOut { setup } | Call::Rank { setup }
             if outside(setup) =>
         {
@@ -257,12 +261,14 @@ impl Settled {
     /// Changes the sheet as the call does, if `first` is the refusal returned: counting leaves the
     /// counts, and all else leaves the places that it required blank.
     fn leave_sheet(&self, call: Call, first: Option<Refusal>, sheet: &mut [u8]) {
-        let places = match (first.map(|refusal| refusal.number), call) {
-            (Some(1..=8 | 10), _) => return,
-            (None, Call::Count) => self.counts.iter().map(|&count| narrow(count)).collect(),
-            _ => vec![0; call.places(self.table.node_count) as usize],
-        };
-        put_words(sheet, &places);
+        match (first.map(|refusal| refusal.number), call) {
+            (Some(1..=8 | 10), _) => {}
+            (None, Call::Count) => {
+                let counts = self.counts.iter().map(|&count| narrow(count));
+                put_words(sheet, &Vec::from_iter(counts));
+            }
+            _ => sheet[..8 * call.places(self.table.node_count) as usize].fill(0),
+        }
     }
 
     /// The setups of a list of numbers, which are all below C: each is the number's own.
@@ -295,6 +301,7 @@ impl Settled {
         match call {
             Call::Check => (table.n << 32) + table.node_count,
             Call::Count => narrow(self.total()),
+            Call::CountOn { m } => table.count_on(m),
             Call::Test { setup } => u64::from(self.permits(setup)),
             Call::Rank { setup } => narrow(table.permitted_below(setup, counts)),
             Call::Unrank { rank } => table.setup_number(rank, counts),

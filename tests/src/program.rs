@@ -1,16 +1,16 @@
 //! The programs, run with an input.
 
 use std::io::Write;
-use std::path::{Path, PathBuf};
+use std::path::PathBuf;
 use std::process::{Command, Stdio};
 use std::time::Duration;
+
+use crate::files;
 
 /// In the folder that SETUPBOOK_PROGRAMS names, or in `../target/bin`.
 fn program(name: &str) -> PathBuf {
     let folder = std::env::var_os("SETUPBOOK_PROGRAMS").unwrap_or("../target/bin".into());
-    Path::new(env!("CARGO_MANIFEST_DIR"))
-        .join(folder)
-        .join(name)
+    files::path(folder).join(name)
 }
 
 /// What a program prints if it is given the input in pieces, with pauses between them.

@@ -2,6 +2,7 @@
 //! what the counts and ranks are. Numbers are u128 where they may grow.
 
 use crate::layout::{fields, words_of};
+use crate::pascal;
 
 #[derive(Clone, Copy, PartialEq, Eq, PartialOrd, Ord)]
 pub struct Edge {
@@ -146,12 +147,17 @@ impl Table {
         count << (height - own)
     }
 
-    /// Places 0 to N of a table whose edges lead to smaller heights: those of the lowest nodes first.
-    pub fn counts(&self) -> Vec<u128> {
-        let mut counts = vec![1; self.node_count as usize + 1];
+    /// The records, those of the lowest nodes first.
+    fn upward(&self) -> Vec<u64> {
         let mut upward: Vec<u64> = (1..=self.node_count).collect();
         upward.sort_by_key(|&k| self.height(k));
-        for k in upward {
+        upward
+    }
+
+    /// Places 0 to N of a table whose edges lead to smaller heights.
+    pub fn counts(&self) -> Vec<u128> {
+        let mut counts = vec![1; self.node_count as usize + 1];
+        for k in self.upward() {
             let record = self.record(k);
             let edges = [record.then_edge, record.else_edge];
             counts[k as usize] = edges
@@ -165,6 +171,37 @@ impl Table {
     /// C, from the counts.
     pub fn total(&self, counts: &[u128]) -> u128 {
         self.count_under(self.root, self.n, counts)
+    }
+
+    /// The same as `count_under`, by how many settings are on: entry i of a row is how many have
+    /// exactly i on. In a gap of g settings row g of the triangle is permitted.
+    fn row_under(&self, edge: Edge, height: u64, rows: &[Vec<u64>]) -> Vec<u64> {
+        let plain = &rows[edge.node as usize];
+        let own = self.height(edge.node);
+        let gap = pascal::row(height - own);
+        match edge.flag {
+            true => both(&pascal::rest(plain), gap),
+            false => both(plain, gap),
+        }
+    }
+
+    /// For each node the row of what is permitted under a plain edge to it.
+    pub fn rows(&self) -> Vec<Vec<u64>> {
+        let mut rows = vec![vec![1]; self.node_count as usize + 1];
+        for k in self.upward() {
+            let record = self.record(k);
+            let below = |edge| self.row_under(edge, record.height - 1, &rows);
+            let on = both(&below(record.then_edge), &[0, 1]);
+            let off = both(&below(record.else_edge), &[1, 0]);
+            rows[k as usize] = on.iter().zip(off).map(|(on, off)| on + off).collect();
+        }
+        rows
+    }
+
+    /// How many permitted setups have exactly m settings on.
+    pub fn count_on(&self, m: u64) -> u64 {
+        let row = self.row_under(self.root, self.n, &self.rows());
+        row.get(m as usize).copied().unwrap_or(0)
     }
 
     /// How many of the 2^height setups from `first` on are permitted. `first` is a multiple of
@@ -206,4 +243,15 @@ impl Table {
         }
         low
     }
+}
+
+/// The row of some settings and some others together, from the rows of each.
+fn both(some: &[u64], others: &[u64]) -> Vec<u64> {
+    let mut row = vec![0; some.len() + others.len() - 1];
+    for (i, some) in some.iter().enumerate() {
+        for (j, others) in others.iter().enumerate() {
+            row[i + j] += some * others;
+        }
+    }
+    row
 }

@@ -4,6 +4,7 @@ use std::collections::{BTreeMap, BTreeSet};
 
 use crate::call::{Answer, Call, Refusal};
 use crate::combination::Operation;
+use crate::pascal;
 use crate::sheets::Length;
 
 /// The refusals of a table, by every operation but the one on loose tables, in the paper's order; of
@@ -20,9 +21,10 @@ pub type Listed = (&'static str, &'static [u64]);
 /// The one on loose tables.
 pub const MAKE_PROPER: Listed = ("make proper", &[11]);
 
-pub const ONE_TABLE: [Listed; 11] = [
+pub const ONE_TABLE: [Listed; 12] = [
     ("check", &[]),
     ("count", &[]),
+    ("count on", &[]),
     ("test", &[12]),
     ("ruled out", &[12]),
     ("rank", &[12, 13]),
@@ -57,6 +59,7 @@ pub fn name_of(call: Call) -> &'static str {
     match call {
         Call::Check => "check",
         Call::Count => "count",
+        Call::CountOn { .. } => "count on",
         Call::Test { .. } => "test",
         Call::RuledOut { .. } => "ruled out",
         Call::Rank { .. } => "rank",
@@ -110,6 +113,7 @@ pub fn is_listed_answer(call: Call, answer: Answer) -> bool {
 fn is_listed_value(call: Call, value: u64, items: u64) -> bool {
     match call {
         Call::Check => value >> 32 <= 63 && value & 0xFFFF_FFFF <= 65_535,
+        Call::CountOn { .. } => value <= pascal::row(63)[31],
         Call::Test { .. } => value <= 1,
         Call::UnrankList { .. } => value == items,
         Call::PartWrite { .. } | Call::MakeProper => is_table_length(value),

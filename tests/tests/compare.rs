@@ -137,6 +137,8 @@ fn every_sheet(comparison: &mut Comparison) {
         for call in [
             Call::Check,
             Call::Count,
+            Call::CountOn { m: setup % (n + 1) },
+            Call::CountOn { m: n + 1 },
             Call::Test { setup },
             Call::Test { setup: 1 << n },
             Call::RuledOut { setup },
@@ -317,7 +319,9 @@ fn wide(comparison: &mut Comparison) {
         let j = comparison.rng.below(k);
         comparison.compare_lengths(Call::PartWrite { k, j }, &bytes_of(&words), 0, 0);
     }
-    comparison.compare_lengths(Call::MakeProper, &bytes_of(&words), 0, 0);
+    for call in [Call::MakeProper, Call::CountOn { m: 0 }] {
+        comparison.compare_lengths(call, &bytes_of(&words), 0, 0);
+    }
 }
 
 /// Refusal 16 beside every other one that leaves it settled which setups are permitted.

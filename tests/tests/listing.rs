@@ -2,18 +2,14 @@
 //! paper.
 
 use std::fs;
-use std::path::Path;
 
 use setupbook_tests::damage;
+use setupbook_tests::files;
 use setupbook_tests::layout::bytes_of;
 use setupbook_tests::listing::{listing, LONGEST};
 use setupbook_tests::program;
 use setupbook_tests::rng::Rng;
 use setupbook_tests::tables;
-
-fn tests_folder() -> &'static Path {
-    Path::new(env!("CARGO_MANIFEST_DIR"))
-}
 
 /// What `setuplist` prints.
 fn printed(pieces: &[&[u8]]) -> String {
@@ -32,7 +28,7 @@ fn read_hex(text: &str) -> Vec<u8> {
 
 /// The names of the stored listings: each is a NAME.hex and a NAME.txt.
 fn stored_names(extension: &str) -> Vec<String> {
-    let mut names: Vec<String> = fs::read_dir(tests_folder().join("listings"))
+    let mut names: Vec<String> = fs::read_dir(files::path("listings"))
         .unwrap()
         .map(|entry| entry.unwrap().path())
         .filter(|path| path.extension().is_some_and(|found| found == extension))
@@ -48,10 +44,7 @@ fn stored_listings() {
     assert_eq!(names, stored_names("txt"));
     assert_eq!(names.len(), 15);
     for name in names {
-        let read = |extension: &str| {
-            let file = tests_folder().join(format!("listings/{name}.{extension}"));
-            fs::read_to_string(file).unwrap()
-        };
+        let read = |extension: &str| files::text(format!("listings/{name}.{extension}"));
         let (table, text) = (read_hex(&read("hex")), read("txt"));
         assert_eq!(listing(&table), text, "{name}, by the paper");
         assert_eq!(printed(&[&table]), text, "{name}, by the program");

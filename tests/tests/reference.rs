@@ -1,6 +1,7 @@
-//! The reference itself: counts, ranks and setups against a brute-force reader of all setups, the
-//! tables of parts against those made from truth tables, starts and sizes against adding up, and two
-//! tables made into one, and loose tables made proper, against trying all setups.
+//! The reference itself: counts, also by how many settings are on, ranks and setups against a
+//! brute-force reader of all setups, Pascal's triangle against products, the tables of parts against
+//! those made from truth tables, starts and sizes against adding up, and two tables made into one, and
+//! loose tables made proper, against trying all setups.
 
 use setupbook_tests::call::Call;
 use setupbook_tests::combination::Operation;
@@ -11,6 +12,7 @@ use setupbook_tests::loose;
 use setupbook_tests::loosening::Loose;
 use setupbook_tests::paper;
 use setupbook_tests::part;
+use setupbook_tests::pascal;
 use setupbook_tests::reading::{Edge, Table};
 use setupbook_tests::rng::Rng;
 use setupbook_tests::tables;
@@ -43,6 +45,26 @@ fn compare_counts(table: &Table) {
     );
 }
 
+/// Counts by how many settings are on, of each node and of the table, by trying all settings.
+fn compare_rows(table: &Table) {
+    let tried = |edge: Edge, height: u64| {
+        let mut row = vec![0; height as usize + 1];
+        for settings in (0..1u64 << height).filter(|&settings| table.permits(edge, settings)) {
+            row[settings.count_ones() as usize] += 1;
+        }
+        row
+    };
+    for (node, row) in (0..).zip(table.rows()) {
+        let plain = Edge { node, flag: false };
+        let height = table.height(node);
+        assert_eq!(row, tried(plain, height), "{node} of {:016X?}", table.words);
+    }
+    let row = tried(table.root, table.n);
+    for (m, count) in (0..).zip(row.into_iter().chain([0])) {
+        assert_eq!(table.count_on(m), count, "{m} of {:016X?}", table.words);
+    }
+}
+
 /// Tries all setups in order: how many have been permitted before is the rank of the next.
 fn compare_ranks(table: &Table) {
     let counts = table.counts();
@@ -60,6 +82,12 @@ fn compare_ranks(table: &Table) {
     assert_eq!(all, u128::from(rank), "{:016X?}", table.words);
 }
 
+fn compare_all(table: &Table) {
+    compare_counts(table);
+    compare_rows(table);
+    compare_ranks(table);
+}
+
 #[test]
 fn counts_and_ranks_are_those_of_brute_force() {
     let seed = Rng::seed_of_run();
@@ -70,9 +98,7 @@ fn counts_and_ranks_are_those_of_brute_force() {
         for _ in 0..40 {
             let most = rng.pick(&[0, 2, 8, 40]);
             let words = tables::random_accepted(&mut rng, n, most);
-            let table = Table::read(&bytes_of(&words));
-            compare_counts(&table);
-            compare_ranks(&table);
+            compare_all(&Table::read(&bytes_of(&words)));
             cases += 1;
         }
     }
@@ -80,8 +106,7 @@ fn counts_and_ranks_are_those_of_brute_force() {
         for _ in 0..20 {
             let function = tables::random_truth_table(&mut rng, n);
             let table = Table::read(&bytes_of(&tables::from_truth_table(&function)));
-            compare_counts(&table);
-            compare_ranks(&table);
+            compare_all(&table);
             for (setup, permitted) in function.iter().enumerate() {
                 assert_eq!(table.permits(table.root, setup as u64), *permitted);
             }
@@ -89,6 +114,20 @@ fn counts_and_ranks_are_those_of_brute_force() {
         }
     }
     report(&format!("brute force: {cases} tables"));
+}
+
+/// Each entry of a row from the one before it, factor by factor.
+#[test]
+fn the_triangle_is_that_of_products() {
+    assert_eq!(pascal::triangle().len(), 64);
+    for (g, row) in (0..).zip(pascal::triangle()) {
+        let mut product: u128 = 1;
+        for (i, &entry) in (0..=g).zip(row) {
+            assert_eq!(u128::from(entry), product, "entry {i} of row {g}");
+            product = product * (g - i) / (i + 1);
+        }
+        assert_eq!(product, 0, "row {g} is whole");
+    }
 }
 
 #[test]

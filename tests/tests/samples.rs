@@ -1,9 +1,12 @@
 //! The paper's samples.
 
+use std::fs;
+
 use setupbook_tests::call::{Answer, Call, List, Outcome, Refusal};
 use setupbook_tests::combination::{self, Memories, Operation};
 use setupbook_tests::combined::Reading;
 use setupbook_tests::comparison::{front, Comparison};
+use setupbook_tests::files;
 use setupbook_tests::layout::{bytes_of, words_of};
 
 const A: [u64; 4] = [
@@ -180,6 +183,74 @@ fn setups_ruled_out() {
     for setup in 0..8 {
         let empty = sampler.answer(Call::RuledOut { setup }, &[0x0C00000000000001]);
         assert_eq!(empty, found([1, 0, 0]));
+    }
+}
+
+/// Counts with a sheet of 64 places for each word of the table and two more, all ones. Those that
+/// are required come back blank, and with one of them too few nothing is counted.
+fn count_on(comparison: &mut Comparison, table: &[u8], m: u64) -> Answer {
+    let call = Call::CountOn { m };
+    let places = 64 * table.len() / 8;
+    let sheet = vec![0xFF; 8 * places + 16];
+    let outcome = comparison.compare(call, table, &sheet, &[]);
+    let left = words_of(&outcome.sheet);
+    assert!(left[..places].iter().all(|&place| place == 0));
+    assert_eq!(left[places..], [u64::MAX; 2]);
+    for len in [8 * places - 1, 8 * places - 8] {
+        let short = comparison.compare(call, table, &sheet[..len], &[]);
+        assert_eq!(short.answer, refused(10, 0));
+        assert!(short.sheet.iter().all(|&byte| byte == 0xFF));
+    }
+    outcome.answer
+}
+
+#[test]
+fn setups_by_settings_on() {
+    let mut comparison = Comparison::of_run();
+    let exactly = fs::read(files::path("../examples/tables/exactly31of63.table")).unwrap();
+    let full = bytes_of(&[0xFC00000000000000]);
+    let most = 916312070471295267;
+    for (m, count) in (0..).zip([1, 3, 1, 1, 0]) {
+        assert_eq!(
+            count_on(&mut comparison, &bytes_of(&A), m),
+            Answer::result(count)
+        );
+    }
+    for (table, m, count) in [
+        (&full, 0, 1),
+        (&full, 31, most),
+        (&full, 32, most),
+        (&full, 63, 1),
+        (&full, 64, 0),
+        (&exactly, 30, 0),
+        (&exactly, 31, most),
+        (&exactly, 32, 0),
+    ] {
+        assert_eq!(count_on(&mut comparison, table, m), Answer::result(count));
+    }
+    for sample in accepted_samples() {
+        for m in 0..=4 {
+            let is_on = |setup: &&u64| u64::from(setup.count_ones()) == m;
+            let count = sample.permitted.iter().filter(is_on).count() as u64;
+            let answer = count_on(&mut comparison, &bytes_of(&sample.words), m);
+            assert_eq!(answer, Answer::result(count));
+        }
+    }
+}
+
+/// The sheet is as long as A needs it: 9 alone blanks it.
+#[test]
+fn refused_tables_by_settings_on() {
+    let mut comparison = Comparison::of_run();
+    for (table, number, place) in refused_samples() {
+        for m in [0, 2, 4, u64::MAX] {
+            let outcome = comparison.compare(Call::CountOn { m }, &table, &[0xFF; 2051], &[]);
+            assert_eq!(outcome.answer, refused(number, place));
+            let (places, spare) = outcome.sheet.split_at(2048);
+            let left = if number == 9 { 0 } else { 0xFF };
+            assert!(places.iter().all(|&byte| byte == left));
+            assert_eq!(spare, [0xFF; 3]);
+        }
     }
 }
 

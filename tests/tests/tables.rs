@@ -3,10 +3,10 @@
 //! files; the texts are written by hand.
 
 use std::fs;
-use std::path::PathBuf;
 
 use setupbook_tests::call::{Answer, Call};
 use setupbook_tests::comparison::Comparison;
+use setupbook_tests::files;
 use setupbook_tests::layout::bytes_of;
 use setupbook_tests::listing::{digits, listing};
 use setupbook_tests::tables::{self, TruthTable};
@@ -82,15 +82,13 @@ fn samples() -> Vec<Sample> {
     ]
 }
 
-fn in_folder(name: &str) -> PathBuf {
-    PathBuf::from(env!("CARGO_MANIFEST_DIR"))
-        .join("../examples/tables")
-        .join(name)
+/// The path of a file there.
+fn in_folder(name: &str) -> String {
+    format!("../examples/tables/{name}")
 }
 
 fn text_of(name: &str) -> String {
-    let path = in_folder(name);
-    fs::read_to_string(&path).unwrap_or_else(|error| panic!("{}: {error}", path.display()))
+    files::text(in_folder(name))
 }
 
 /// What a line `NAME: VALUE` of a text says.
@@ -110,7 +108,7 @@ fn set_in(text: &str) -> String {
 #[test]
 fn files_are_what_they_say() {
     for sample in samples() {
-        let path = in_folder(&format!("{}.table", sample.name));
+        let path = files::path(in_folder(&format!("{}.table", sample.name)));
         let table = bytes_of(&sample.words);
         if std::env::var_os("WRITE").is_some() {
             fs::write(&path, &table).unwrap();
@@ -130,7 +128,7 @@ fn no_other_tables() {
         .flat_map(|sample| [".table", ".txt"].map(|end| sample.name.to_string() + end))
         .chain(["README.md".to_string()])
         .collect();
-    let mut found: Vec<String> = fs::read_dir(in_folder(""))
+    let mut found: Vec<String> = fs::read_dir(files::path(in_folder("")))
         .unwrap()
         .map(|entry| entry.unwrap().file_name().into_string().unwrap())
         .collect();

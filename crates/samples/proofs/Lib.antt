@@ -7,6 +7,7 @@ pub mod Lists
 pub mod Sheets
 pub mod Settings
 pub mod EdgeFirst
+pub mod Weighing
 pub mod Exclusion
 pub mod Loose
 pub mod EqualFiles

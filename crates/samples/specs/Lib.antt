@@ -5,6 +5,7 @@ pub mod Lists
 pub mod Sheets
 pub mod Settings
 pub mod EdgeFirst
+pub mod Weighing
 pub mod Exclusion
 pub mod Loose
 pub mod EqualFiles

@@ -206,6 +206,21 @@ fn sheet_too_short() {
     say(b"\n");
 }
 
+// How many permitted setups have m settings on, in a table of four words at most, with so many bytes of sheet, 2048 at most.
+fn counted_on(name: &[u8], table: &[u8], m: u64, lent: usize) {
+    say(name);
+    say_number(b", settings on ", m);
+    say(b":");
+    let mut memory = [0u8; 2048];
+    let sheet = tables::front(&mut memory, lent);
+    let counted = weighing::count_on(table, m, &mut sheet[..]);
+    match counted {
+        Counted::Total(c) => say_number(b" ", c),
+        Counted::Refused(r) => say_refusal(b" ", r),
+    }
+    say(b"\n");
+}
+
 // The rank of a setup in A.
 fn rank_of(x: u64) {
     say_number(b"A, rank of ", x);
@@ -411,6 +426,18 @@ fn numbers() {
     setup_of(b"0C00000000000001", &empty[0..8], 0);
 }
 
+fn settings_on() {
+    let a = bytes_of(&A);
+    counted_on(b"A", &a, 0, 2048);
+    counted_on(b"A", &a, 1, 2048);
+    counted_on(b"A", &a, 2, 2048);
+    counted_on(b"A", &a, 3, 2048);
+    counted_on(b"A", &a, 4, 2048);
+    counted_on(b"A, 2047 bytes", &a, 0, 2047);
+    let all = bytes_of(&[0xFC00000000000000]);
+    counted_on(b"FC00000000000000", &all[0..8], 31, 512);
+}
+
 fn setups_ruled_out() {
     let a = bytes_of(&A);
     ruled_out(b"A", &a, 5);
@@ -506,6 +533,7 @@ fn main() {
     setup_too_large();
     sheet_too_short();
     numbers();
+    settings_on();
     setups_ruled_out();
     lists_of_numbers();
     divisions();
