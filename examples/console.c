@@ -5,6 +5,7 @@
  *     numbers FILE    prints the setups of a file of ranks, one a line and none below the one before
  *                     it, by one call
  *     setup DIGITS    prints the rank of the setup with these binary digits
+ *     on M            prints how many permitted setups have exactly M settings on
  *     why DIGITS      prints the first settings of the setup with these binary digits by which it is
  *                     ruled out, and the smallest permitted setup that agrees in all but the last of
  *                     them; or `permitted`, or `nothing is permitted`
@@ -36,7 +37,7 @@
 struct book {
     uint8_t *table;
     size_t table_len;
-    uint8_t *sheet; /* long enough for every call */
+    uint8_t *sheet; /* long enough for every call but count-on */
     size_t sheet_len;
 };
 
@@ -177,6 +178,22 @@ static void answer_setup(const struct book *book, uint64_t setup)
         print_refusal(answer);
     else
         printf("%" PRIu64 "\n", answer);
+}
+
+/* The sheet for it is 64 times as long as the table, so it is lent for this call alone. */
+static void answer_on(const struct book *book, uint64_t m)
+{
+    size_t len = setupbook_count_sheet_len(book->table_len);
+    uint8_t *sheet = allocate(len);
+    uint64_t answer[3], refusal;
+    if (sheet == NULL)
+        return;
+    refusal = setupbook_count_on(book->table, book->table_len, m, sheet, len, answer);
+    if (refusal != 0)
+        print_refused(refusal, answer[0]);
+    else
+        printf("%" PRIu64 "\n", answer[0]);
+    free(sheet);
 }
 
 static void answer_why(const struct book *book, uint64_t setup)
@@ -384,6 +401,8 @@ static void answer_line(const struct book *book, const char *folder, const char 
         answer_setup(book, given);
     else if (strcmp(line, "setup -") == 0 && settings(book) == 0)
         answer_setup(book, 0);
+    else if (strncmp(line, "on ", 3) == 0 && parse(line + 3, 10, &given))
+        answer_on(book, given);
     else if (strncmp(line, "why ", 4) == 0 && parse(line + 4, 2, &given))
         answer_why(book, given);
     else if (strcmp(line, "why -") == 0 && settings(book) == 0)

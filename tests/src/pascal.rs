@@ -17,7 +17,7 @@ pub fn row(g: u64) -> &'static [u64] {
     &TRIANGLE[g as usize]
 }
 
-/// The row below: each entry is the sum of the two above it, or the one at the ends.
+/// The row below: each entry is the sum of the two above it, of which the ends have one.
 pub fn next(row: &[u64]) -> Vec<u64> {
     let left = [&[0], row].concat();
     let right = [row, &[0]].concat();
@@ -27,7 +27,7 @@ pub fn next(row: &[u64]) -> Vec<u64> {
         .collect()
 }
 
-/// What the setups counted by a row leave of all.
+/// What a row leaves of all setups.
 pub fn rest(row: &[u64]) -> Vec<u64> {
     let all = &TRIANGLE[row.len() - 1];
     all.iter()

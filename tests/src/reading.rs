@@ -173,8 +173,8 @@ impl Table {
         self.count_under(self.root, self.n, counts)
     }
 
-    /// The same as `count_under`, by how many settings are on: entry i of a row is how many have
-    /// exactly i on. In a gap of g settings row g of the triangle is permitted.
+    /// What `count_under` counts, by how many settings are on: entry i of a row is how many have
+    /// exactly i on, at most the triangle's. All settings of a gap are permitted.
     fn row_under(&self, edge: Edge, height: u64, rows: &[Vec<u64>]) -> Vec<u64> {
         let plain = &rows[edge.node as usize];
         let own = self.height(edge.node);

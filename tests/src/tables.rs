@@ -137,6 +137,13 @@ pub fn from_states(
     diagram.write(n, nodes[0])
 }
 
+/// The table of the setups of n settings with exactly j on: the state is how many have been.
+pub fn with_exactly(n: u64, j: u64) -> Vec<u64> {
+    let j = j as usize;
+    let next = |state: usize, on| Some(state + usize::from(on)).filter(|&state| state <= j);
+    from_states(n, j + 1, next, |state| state == j)
+}
+
 /// How many records of which height, from the lowest height up.
 pub type Plan = Vec<(u64, usize)>;
 

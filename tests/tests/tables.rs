@@ -58,14 +58,13 @@ fn path() -> Sample {
     }
 }
 
-/// Exactly 31 settings are on. The state is how many have been.
+/// Exactly 31 settings are on.
 fn exactly() -> Sample {
-    let next = |state: usize, on| Some(state + usize::from(on)).filter(|&state| state <= 31);
     // C(63, 31), factor by factor.
     let count = (1..=31u128).fold(1, |product, i| product * (63 - 31 + i) / i);
     Sample {
         name: "exactly31of63",
-        words: tables::from_states(63, 32, next, |state| state == 31),
+        words: tables::with_exactly(63, 31),
         count: count as u64,
     }
 }

@@ -29,6 +29,9 @@ fn counts_agree_with_the_paper() {
     assert!(comparison.tally.calls("count on") >= 40_000);
 }
 
+/// Above any n.
+const GREAT: [u64; 5] = [64, 65, 1 << 32, 1 << 63, u64::MAX];
+
 /// The count of the library, compared with the paper.
 fn ask(comparison: &mut Comparison, table: &[u8], m: u64) -> u64 {
     comparison
@@ -45,16 +48,8 @@ fn weigh(comparison: &mut Comparison, words: &[u64]) -> Vec<u64> {
     assert_eq!(counts.iter().sum::<u64>(), count);
     // One up to n, with a bit more.
     let more = (1 << comparison.rng.between(6, 63)) + comparison.rng.below(n + 1);
-    for m in [
-        n + 1,
-        63.max(n + 1),
-        64,
-        65,
-        1 << 32,
-        1 << 63,
-        u64::MAX,
-        more,
-    ] {
+    let above = [n + 1, 63.max(n + 1), more];
+    for m in above.into_iter().chain(GREAT) {
         assert_eq!(ask(comparison, &table, m), 0, "{m} of {n}");
     }
     counts
@@ -100,55 +95,45 @@ fn constants(comparison: &mut Comparison) {
     }
 }
 
-/// The setup with all settings on alone, the one with none, and all setups but one of these.
+/// The setup with all settings on, or the one with none; and all but this one.
 fn chains(comparison: &mut Comparison) {
     for n in 1..=63 {
-        for only_one in [false, true] {
+        for (only_one, on) in [(true, n), (false, 0)] {
             let mut one = vec![0; n as usize + 1];
-            one[if only_one { n as usize } else { 0 }] = 1;
-            let [plain, turned] =
-                [0, 1].map(|root_flag| weigh(comparison, &tables::chain(n, only_one, root_flag)));
-            let (alone, others) = match only_one {
-                true => (plain, turned),
-                false => (turned, plain),
-            };
-            assert_eq!(others, pascal::rest(&one));
-            assert_eq!(alone, one);
-        }
-    }
-}
-
-/// The table that permits the setups with exactly j settings on: the state is how many have been.
-fn with_exactly(n: u64, j: u64) -> Vec<u64> {
-    let j = j as usize;
-    let next = |state: usize, on| Some(state + usize::from(on)).filter(|&state| state <= j);
-    tables::from_states(n, j + 1, next, |state| state == j)
-}
-
-fn exactly(comparison: &mut Comparison) {
-    for n in 0..=63 {
-        let any = [(); 2].map(|()| comparison.rng.below(n + 1));
-        let chosen = if n <= 8 {
-            (0..=n).collect()
-        } else {
-            any.to_vec()
-        };
-        for j in chosen {
-            let table = bytes_of(&with_exactly(n, j));
-            let other = comparison.rng.below(n + 1);
-            for m in [j, j.wrapping_sub(1), j + 1, other, n + 1] {
-                let count = if m == j {
-                    pascal::row(n)[j as usize]
-                } else {
-                    0
-                };
-                assert_eq!(ask(comparison, &table, m), count, "{m}, {j} of {n}");
+            one[on as usize] = 1;
+            let mut expected = [pascal::rest(&one), one];
+            if only_one {
+                expected.reverse();
+            }
+            for (root_flag, counts) in (0..).zip(expected) {
+                let words = tables::chain(n, only_one, root_flag);
+                assert_eq!(weigh(comparison, &words), counts);
             }
         }
     }
 }
 
-/// With the root edge's flag turned over the counts are the rest of the triangle's row, and with a
+/// For each n up to 8 and for 63 every j, otherwise two.
+fn exactly(comparison: &mut Comparison) {
+    for n in 0..=63 {
+        let chosen = match n {
+            0..=8 | 63 => (0..=n).collect(),
+            _ => vec![comparison.rng.below(n + 1), comparison.rng.below(n + 1)],
+        };
+        for j in chosen {
+            let table = bytes_of(&tables::with_exactly(n, j));
+            let count = ask(comparison, &table, j);
+            assert_eq!(count, pascal::row(n)[j as usize], "{j} of {n}");
+            let any = comparison.rng.below(n + 1);
+            for m in [j.wrapping_sub(1), j + 1, any, n + 1] {
+                let count = ask(comparison, &table, m);
+                assert!(count == 0 || m == j, "{m}, {j} of {n}: {count}");
+            }
+        }
+    }
+}
+
+/// With the root edge's flag turned over the counts are the rest of the triangle's row, and with each
 /// setting that changes nothing, above or below all others, they follow the triangle's rule.
 fn compare_kin(comparison: &mut Comparison, words: &[u64]) {
     let counts = weigh(comparison, words);
@@ -182,6 +167,7 @@ fn every_sheet(comparison: &mut Comparison) {
         let table = bytes_of(&words);
         let needed = 64 * table.len();
         let (n, ..) = fields(words[0]);
+        // As many places as other calls need, 63 a word, and those of one word too few.
         let others = [table.len(), 63 * table.len(), needed - 512];
         for len in [&sheets::border_lengths(needed)[..], &others].concat() {
             let m = comparison.rng.below(n + 2);
