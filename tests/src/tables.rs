@@ -23,6 +23,12 @@ pub fn numbered_truth_table(n: u64, number: u64) -> TruthTable {
         .collect()
 }
 
+/// All functions of up to 3 settings.
+pub fn small_truth_tables() -> impl Iterator<Item = TruthTable> {
+    let of_n = |n| (0..1u64 << (1 << n)).map(move |number| numbered_truth_table(n, number));
+    (0..=3).flat_map(of_n)
+}
+
 /// A random truth table with constant, repeated and opposite parts.
 pub fn random_truth_table(rng: &mut Rng, n: u64) -> TruthTable {
     if n == 0 {

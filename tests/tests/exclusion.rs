@@ -57,10 +57,8 @@ fn compare_function(comparison: &mut Comparison, function: &TruthTable) {
 }
 
 fn all_small_functions(comparison: &mut Comparison) {
-    for n in 0..=3 {
-        for number in 0..1u64 << (1 << n) {
-            compare_function(comparison, &tables::numbered_truth_table(n, number));
-        }
+    for function in tables::small_truth_tables() {
+        compare_function(comparison, &function);
     }
 }
 

@@ -89,10 +89,8 @@ fn compare_trees(comparison: &mut Comparison, function: &TruthTable) {
 }
 
 fn small_trees(comparison: &mut Comparison) {
-    for n in 0..=3 {
-        for number in 0..1u64 << (1 << n) {
-            compare_trees(comparison, &tables::numbered_truth_table(n, number));
-        }
+    for function in tables::small_truth_tables() {
+        compare_trees(comparison, &function);
     }
 }
 

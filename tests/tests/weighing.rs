@@ -15,7 +15,7 @@ fn counts_agree_with_the_paper() {
     let mut comparison = Comparison::of_run();
     comparison.run(&[
         ("all functions of up to 3 settings", all_small_functions),
-        ("random functions of 4 to 9 settings", random_functions),
+        ("random functions of 4 to 10 settings", random_functions),
         ("all setups, and none", constants),
         ("one setup, and all but one", chains),
         ("exactly j settings on", exactly),
@@ -70,16 +70,14 @@ fn compare_function(comparison: &mut Comparison, function: &TruthTable) {
 }
 
 fn all_small_functions(comparison: &mut Comparison) {
-    for n in 0..=3 {
-        for number in 0..1u64 << (1 << n) {
-            compare_function(comparison, &tables::numbered_truth_table(n, number));
-        }
+    for function in tables::small_truth_tables() {
+        compare_function(comparison, &function);
     }
 }
 
 fn random_functions(comparison: &mut Comparison) {
-    for n in 4..=9 {
-        for _ in 0..40 {
+    for n in 4..=10 {
+        for _ in 0..30 {
             let function = tables::random_truth_table(&mut comparison.rng, n);
             compare_function(comparison, &function);
         }

@@ -1,6 +1,6 @@
 -- Pascal's rule at each entry of the triangle. Assumes nothing.
 use Prim.Native.Nat.{ℕ, zero, suc, _+_, _-_, _*_, _/_, _^_, _≤_, _<_}
-use mathlib.Core.Path.{_≡_, refl, sym, ap, subst, _∙_}
+use mathlib.Core.Path.{_≡_, refl, ap, _∙_}
 use mathlib.Core.List.{List, [], _∷_, _++_}
 use native.Mathlib.Nat.{le-refl, lt-of-le-of-lt, two-pow-succ}
 use native.Mathlib.Omega.{arith}
@@ -34,7 +34,7 @@ unfolding binomial
 binomial-sum g i = refl
 
 -- no entry of a row is more than half of what the row adds up to, but for row 0
-pub binomial-half : (g i : ℕ) → binomial (suc g) i ≤ 2 ^ g
+binomial-half : (g i : ℕ) → binomial (suc g) i ≤ 2 ^ g
 unfolding binomial
 binomial-half zero zero = omega arith
 binomial-half zero (suc zero) = omega arith

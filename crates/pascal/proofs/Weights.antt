@@ -1,5 +1,5 @@
 -- Counting setups by how many settings are on. Assumes nothing.
-use Prim.Native.Nat.{ℕ, zero, suc, _+_, _-_, _*_, _/_, _%_, _^_, _≤_, _<_}
+use Prim.Native.Nat.{ℕ, zero, suc, _+_, _-_, _%_, _^_, _≤_, _<_}
 use mathlib.Core.Path.{_≡_, refl, sym, ap, ap₂, _∙_}
 use mathlib.Core.Bool.{Bool, true, false, not, _&&_}
 use native.Mathlib.Nat.{two-pow-succ, add-mod-left}
@@ -16,7 +16,7 @@ use Rattle.pascal.specs.Ones.{ones, countOn, sum}
 use Rattle.pascal.proofs.Pascal.{binomial-zero, binomial-past}
 
 -- at most all settings are on
-pub ones-le : (h x : ℕ) → ones h x ≤ h
+ones-le : (h x : ℕ) → ones h x ≤ h
 unfolding ones indicator
 ones-le zero x = omega arith
 ones-le (suc h) x = omega (arith, ones-le h x, one (bit (suc h) x))

@@ -1,19 +1,18 @@
 -- Counting by the row of an edge's node, in the terms of the code. Assumes nothing.
 use Prim.Native.Nat.{ℕ, _+_, _*_, _/_, _%_, _≤_, _<_}
-use mathlib.Core.Path.{_≡_, refl, sym, ap, subst, _∙_}
+use mathlib.Core.Path.{_≡_, sym, _∙_}
 use mathlib.Core.Bool.{Bool, true, false}
 use mathlib.Core.List.{List}
 use native.Mathlib.Omega.{arith}
-use native.Mathlib.Nat.{le-refl, mod-lt, mod-mod}
+use native.Mathlib.Nat.{le-refl, mod-lt}
 use lib.Dec.{lit<, eqb}
 use lib.ListN.{length}
 use borrow.Author.Tests.{eqb-true, eqb-false}
 use Rattle.words.specs.Words.{wordAt}
-use Rattle.diagram.specs.Meaning.{under, plain}
-use Rattle.diagram.specs.Format.{height}
+use Rattle.diagram.specs.Meaning.{under}
 use Rattle.pascal.specs.Triangle.{binomial}
 use Rattle.rows.specs.Inner.{expand, opposed, turned, from, rowOf, Opens, CountsUnder}
-use Rattle.rows.proofs.Modular.{Same, add-same, cancel-same}
+use Rattle.rows.proofs.Modular.{Same}
 use Rattle.rows.proofs.Standing.{row-counts, opposed-sum}
 use Rattle.rows.proofs.Placing.{from-fits}
 use Rattle.rows.proofs.Entering.{edge-stands}

@@ -1,20 +1,20 @@
 -- The row of a node from those of its edges, in the terms of the code. Assumes nothing.
-use Prim.Native.Nat.{ℕ, zero, suc, _+_, _-_, _*_, _/_, _%_, _^_, _≤_, _<_}
-use mathlib.Core.Path.{_≡_, refl, sym, ap, ap₂, subst, _∙_}
+use Prim.Native.Nat.{ℕ, zero, suc, _+_, _-_, _*_, _/_, _%_, _≤_, _<_}
+use mathlib.Core.Path.{_≡_, refl, sym, ap, subst, _∙_}
 use mathlib.Core.Bool.{Bool, true, false}
 use mathlib.Core.List.{List}
 use native.Mathlib.Omega.{arith}
-use native.Mathlib.Nat.{le-refl, mod-lt, mul-le-mul-left}
+use native.Mathlib.Nat.{mod-lt, mul-le-mul-left}
 use lib.Dec.{lit<, eqb}
 use lib.ListN.{length}
 use borrow.Author.Tests.{eqb-true, eqb-false}
 use Rattle.words.specs.Words.{wordAt, putWord}
 use Rattle.words.specs.Swap.{swap}
-use Rattle.diagram.specs.Format.{Words, height, thenEdge, elseEdge}
+use Rattle.diagram.specs.Format.{Words, height}
 use Rattle.diagram.specs.Meaning.{plain, under}
 use Rattle.diagram.specs.Reading.{IsRecord}
 use Rattle.diagram.proofs.Paths.{Lower, tall-node}
-use Rattle.diagram.proofs.Inside.{within-below, high-lower, low-lower}
+use Rattle.diagram.proofs.Inside.{high-lower, low-lower}
 use Rattle.diagram.proofs.Counts.{under-period, else-half, then-half}
 use Rattle.rows.specs.Inner.{opposed, turned, Stands, from, rowOf, Mixes, Rows, Next, Entered}
 use Rattle.rows.proofs.Modular.{Same, turned-first, turned-next}
@@ -26,7 +26,7 @@ pub row-below : (m v k : ℕ) → v < k → (m + 1) * v + (m + 1) ≤ (m + 1) * 
 row-below m v k l = omega (arith, mul-le-mul-left (m + 1) l)
 
 -- a row with its signs turned fits
-pub turned-fits : (f : ℕ) (a : ℕ → ℕ) → ((i : ℕ) → a i < 18446744073709551616) → (i : ℕ) → turned f a i < 18446744073709551616
+turned-fits : (f : ℕ) (a : ℕ → ℕ) → ((i : ℕ) → a i < 18446744073709551616) → (i : ℕ) → turned f a i < 18446744073709551616
 unfolding turned opposed
 turned-fits zero a l i = l i
 turned-fits (suc f) a l i = mod-lt (18446744073709551616 - a i) (lit< tt)

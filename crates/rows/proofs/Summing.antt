@@ -1,13 +1,13 @@
 -- The sum that a row expands to, term by term, in the terms of the code. Assumes nothing.
-use Prim.Native.Nat.{ℕ, zero, suc, _+_, _-_, _*_, _/_, _%_, _≤_, _<_}
-use mathlib.Core.Path.{_≡_, refl, sym, ap, ap₂, subst, _∙_}
+use Prim.Native.Nat.{ℕ, suc, _+_, _-_, _*_, _%_, _≤_, _<_}
+use mathlib.Core.Path.{_≡_, sym, ap, ap₂, _∙_}
 use mathlib.Core.List.{List}
 use native.Mathlib.Omega.{arith}
 use Rattle.words.specs.Words.{wordAt}
 use Rattle.words.specs.Swap.{swap}
 use Rattle.pascal.specs.Triangle.{binomial}
 use Rattle.rows.specs.Inner.{expand, from}
-use Rattle.rows.proofs.Modular.{Same, add-same}
+use Rattle.rows.proofs.Modular.{Same}
 use Rattle.rows.proofs.Expanding.{expand-cong}
 use Rattle.rows.proofs.Placing.{from-next, loaded}
 

@@ -4,10 +4,7 @@
 ghost use mathlib.Core.Path.{_≡_};
 ghost use Prim.Native.Nat.{_+_, _*_, _%_, _^_, _≤_, _<_};
 ghost use lib.ListN.{length};
-ghost use Rattle.words.specs.Words.{wordAt};
-ghost use Rattle.diagram.specs.Meaning.{under};
 ghost use Rattle.pascal.specs.Triangle.{triangle};
-ghost use Rattle.pascal.specs.Ones.{countOn};
 ghost use Rattle.rows.specs.Inner.{expand, from, Mixes, Next, Entered, Rows, Fillable, Opened, CountsUnder};
 use diagram::Edge;
 use diagram::Node;

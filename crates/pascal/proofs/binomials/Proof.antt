@@ -1,6 +1,5 @@
 -- `pascal::binomials` meets its contract: the constant is Pascal's triangle, by computation. Assumes nothing.
 use mathlib.Core.Path.{refl}
-use borrow.Author.Needs.{needs}
 use Rattle.pascal.specs.Triangle.{sums, row, triangle}
 use Rattle.pascal.proofs.binomials.Statement.{statement}
 use Rattle.pascal.proofs.binomials.Tie as tie

@@ -1,5 +1,5 @@
 -- `rows::fill` meets its contract. The loop's invariant: the rows of nodes 0 to k stand for them. Assumes nothing.
-use Prim.Native.Nat.{_+_, _-_, _*_, _≤_}
+use Prim.Native.Nat.{_+_, _-_, _≤_}
 use mathlib.Core.Path.{_≡_, refl, subst, _∙_}
 use native.Mathlib.Omega.{arith}
 use lib.ListN.{length}

@@ -1,5 +1,5 @@
 -- `weighing::count_on` meets its contract: as every operation begins, `count_on_under` from the root edge, and a blank sheet. Assumes nothing.
-use Prim.Native.Nat.{_+_, _*_, _≤_}
+use Prim.Native.Nat.{_*_, _≤_}
 use mathlib.Core.Path.{_≡_, sym, ap, subst}
 use native.Mathlib.Omega.{arith}
 use borrow.Author.Needs.{needs}

@@ -1,5 +1,5 @@
 -- `weighing::count_on_under` meets its contract: none where there are fewer settings, otherwise by rows. Assumes nothing.
-use mathlib.Core.Path.{_≡_, sym}
+use mathlib.Core.Path.{sym}
 use native.Mathlib.Omega.{arith}
 use borrow.Author.Needs.{needs}
 use Rattle.pascal.proofs.Weights.{on-past}
