@@ -11,10 +11,10 @@ use Rattle.diagram.specs.Reading.{opposite, turn}
 
 -- the flag f of edge e
 module _ (e : ℕ) (f : Bool) (f-is : f ≡ eqb (e % 2) 1) where
-  flag-set : f ≡ true → e % 2 ≡ 1
+  pub flag-set : f ≡ true → e % 2 ≡ 1
   flag-set q = eqb-true (e % 2) 1 (sym f-is ∙ q)
 
-  flag-clear : f ≡ false → e % 2 ≡ 0
+  pub flag-clear : f ≡ false → e % 2 ≡ 0
   flag-clear q = let o : e % 2 ≡ 1 → ⊥ = eqb-false (e % 2) 1 (sym f-is ∙ q) in omega arith
 
   -- a count of m under it

@@ -1,6 +1,6 @@
--- Pascal's rule at each entry of the triangle. Assumes nothing.
+-- Binomial coefficients, and Pascal's rule: a table that obeys it holds them, and the triangle as it is computed does. Assumes nothing.
 use Prim.Native.Nat.{ℕ, zero, suc, _+_, _-_, _*_, _/_, _^_, _≤_, _<_}
-use mathlib.Core.Path.{_≡_, refl, ap, _∙_}
+use mathlib.Core.Path.{_≡_, refl, sym, ap, _∙_}
 use mathlib.Core.List.{List, [], _∷_, _++_}
 use native.Mathlib.Nat.{le-refl, lt-of-le-of-lt, two-pow-succ}
 use native.Mathlib.Omega.{arith}
@@ -8,7 +8,7 @@ use lib.Pow.{pow-lt}
 use lib.ListN.{length, getD, length-append, List·getD-append}
 use lib.Seq.{getD-append-add}
 use Rattle.words.proofs.Cases.{less, same, more, tri}
-use Rattle.pascal.specs.Triangle.{binomial, sums, row, triangle}
+use Rattle.pascal.specs.Triangle.{entry, PascalsRule, binomial}
 
 -- 1 at the ends, and nothing past them
 pub binomial-zero : (g : ℕ) → binomial g 0 ≡ 1
@@ -49,6 +49,31 @@ binomial-fits zero zero l = omega arith
 binomial-fits zero (suc i) l = omega arith
 binomial-fits (suc g) i l = lt-of-le-of-lt (binomial-half g i) (pow-lt {i = g} {j = 63} (omega arith))
 
+-- a table that obeys the rule holds the binomial coefficients
+pub rule-entry : (t : List ℕ) (G : ℕ) → PascalsRule t G → (g i : ℕ) → g < G → i ≤ g → entry t g i ≡ binomial g i
+rule-entry t G R g zero l q = R .first g l ∙ sym (binomial-zero g)
+rule-entry t G R zero (suc i) l q = absurd (omega arith)
+rule-entry t G R (suc g) (suc i) l q = elim (tri i g) [
+  | less m ↦ R .between g i l m ∙ omega (arith, rule-entry t G R g i (omega arith) (omega arith), rule-entry t G R g (suc i) (omega arith) m, binomial-sum g i)
+  | same m ↦ rw m (R .last (suc g) l ∙ sym (binomial-last (suc g)))
+  | more m ↦ absurd (omega arith)
+]
+
+-- the triangle as it is computed: the sums of neighbours in the row that is a and then l, with 0 behind it
+unfoldable pub sums : ℕ → List ℕ → List ℕ
+sums a [] = a ∷ []
+sums a (b ∷ l) = (a + b) ∷ sums b l
+
+-- ... row g, from the one above it with 0 before it
+unfoldable pub row : ℕ → List ℕ
+row zero = 1 ∷ []
+row (suc g) = sums 0 (row g)
+
+-- ... the rows below g, one after the other
+unfoldable pub triangle : ℕ → List ℕ
+triangle zero = []
+triangle (suc g) = triangle g ++ row g
+
 -- the sums of neighbours, one by one
 sums-first : (a : ℕ) (l : List ℕ) → getD (sums a l) 0 0 ≡ a + getD l 0 0
 unfolding sums
@@ -80,38 +105,49 @@ row-at (suc g) zero = sums-first 0 (row g) ∙ omega (arith, row-at g zero, bino
 row-at (suc g) (suc i) = sums-at 0 (row g) i ∙ omega (arith, row-at g i, row-at g (suc i))
 
 -- where row g begins
+length-triangle : (g : ℕ) → length (triangle (suc g)) ≡ length (triangle g) + suc g
+unfolding triangle
+length-triangle g = length-append (triangle g) (row g) ∙ ap (length (triangle g) +_) (length-row g)
+
 begins : (g : ℕ) → 2 * length (triangle g) ≡ g * (g + 1)
 unfolding triangle
 begins zero = refl
-begins (suc g) =
-    let e : length (triangle g ++ row g) ≡ length (triangle g) + suc g = length-append (triangle g) (row g) ∙ ap (length (triangle g) +_) (length-row g) in
-    omega (arith, e, begins g)
+begins (suc g) = omega (arith, length-triangle g, begins g)
 
 -- ... and that it lies within the rows below G
 within : (g G i : ℕ) → g < G → i ≤ g → length (triangle g) + i < length (triangle G)
-unfolding triangle
 within g zero i l m = absurd (omega arith)
-within g (suc G) i l m =
-    let e : length (triangle G ++ row G) ≡ length (triangle G) + suc G = length-append (triangle G) (row G) ∙ ap (length (triangle G) +_) (length-row G) in
-    elim (tri g G) [ less q ↦ omega (arith, e, within g G i q m) | same q ↦ rw q (omega (arith, e)) | more q ↦ absurd (omega arith) ]
+within g (suc G) i l m = elim (tri g G) [
+  | less q ↦ omega (arith, length-triangle G, within g G i q m)
+  | same q ↦ rw q (omega (arith, length-triangle G))
+  | more q ↦ absurd (omega arith)
+]
 
--- entry i of row g, in the rows below G
-entry-at : (g G i : ℕ) → g < G → i ≤ g → getD (triangle G) (length (triangle g) + i) 0 ≡ getD (row g) i 0
+-- row g among the rows below G
+among : (g G i : ℕ) → g < G → i ≤ g → getD (triangle G) (length (triangle g) + i) 0 ≡ getD (row g) i 0
 unfolding triangle
-entry-at g zero i l m = absurd (omega arith)
-entry-at g (suc G) i l m = elim (tri g G) [
-  | less q ↦ List·getD-append (triangle G) (row G) 0 (length (triangle g) + i) (within g G i q m) ∙ entry-at g G i q m
+among g zero i l m = absurd (omega arith)
+among g (suc G) i l m = elim (tri g G) [
+  | less q ↦ List·getD-append (triangle G) (row G) 0 (length (triangle g) + i) (within g G i q m) ∙ among g G i q m
   | same q ↦ rw q (getD-append-add (triangle G) (row G) i 0)
   | more q ↦ absurd (omega arith)
 ]
 
--- the place of an entry, as the code has it
-module _ (g i : ℕ) (few : g ≤ 63) (inside : i ≤ g) where
-  pub place-is : g * (g + 1) / 2 + i ≡ length (triangle g) + i
-  place-is = omega (arith, begins g)
+-- the place of an entry
+place-is : (g i : ℕ) → g * (g + 1) / 2 + i ≡ length (triangle g) + i
+place-is g i = omega (arith, begins g)
 
-  pub place-inside : g * (g + 1) / 2 + i < 2080
-  place-inside = omega (arith, place-is, within g 64 i (omega arith) inside, begins 64)
+pub place-inside : (g i : ℕ) → g ≤ 63 → i ≤ g → g * (g + 1) / 2 + i < 2080
+place-inside g i few l = omega (arith, place-is g i, within g 64 i (omega arith) l, begins 64)
 
-  pub place-holds : getD (triangle 64) (g * (g + 1) / 2 + i) 0 ≡ binomial g i
-  place-holds = ap (λ (at : ℕ). getD (triangle 64) at 0) place-is ∙ entry-at g 64 i (omega arith) inside ∙ row-at g i
+-- the triangle obeys the rule
+holds : (G g i : ℕ) → g < G → i ≤ g → entry (triangle G) g i ≡ binomial g i
+holds G g i l m = ap (λ (at : ℕ). getD (triangle G) at 0) (place-is g i) ∙ among g G i l m ∙ row-at g i
+
+pub table-obeys : (t : List ℕ) (G : ℕ) → t ≡ triangle G → PascalsRule t G
+table-obeys t G e = rw e record {
+  entries = omega (arith, begins G);
+  first = λ g l. holds G g 0 l (omega arith) ∙ binomial-zero g;
+  last = λ g l. holds G g g l (le-refl g) ∙ binomial-last g;
+  between = λ g i l m. holds G (suc g) (suc i) l (omega arith) ∙ binomial-sum g i ∙ omega (arith, holds G g i (omega arith) (omega arith), holds G g (suc i) (omega arith) m);
+}

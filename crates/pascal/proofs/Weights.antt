@@ -6,7 +6,7 @@ use native.Mathlib.Nat.{two-pow-succ, add-mod-left}
 use native.Mathlib.Omega.{arith}
 use lib.Dec.{eqb, eqb·zero-suc, eqb·suc-zero, eqb·suc-suc}
 use borrow.Author.Tests.{eq-eqb, ne-eqb}
-use Rattle.words.proofs.Cases.{less, same, more, tri}
+use Rattle.words.proofs.Cases.{less, same, more, tri, and-false}
 use Rattle.diagram.specs.Meaning.{bit}
 use Rattle.diagram.specs.Count.{indicator, countBelow}
 use Rattle.diagram.proofs.CountLaws.{count-cong, count-none, count-add}
@@ -62,11 +62,7 @@ on-halves P h m =
 
 pub on-zero : (P : ℕ → Bool) (h : ℕ) → countOn P (suc h) 0 ≡ countOn P h 0
 unfolding countOn
-on-zero P h = on-halves P h 0 ∙ omega (arith, count-none (λ x. P (2 ^ h + x) && eqb (suc (ones h x)) 0) (2 ^ h) (λ x l. ap (P (2 ^ h + x) &&_) (eqb·suc-zero (ones h x)) ∙ none (P (2 ^ h + x))))
-  where
-    none : (b : Bool) → (b && false) ≡ false
-    none true = refl
-    none false = refl
+on-zero P h = on-halves P h 0 ∙ omega (arith, count-none (λ x. P (2 ^ h + x) && eqb (suc (ones h x)) 0) (2 ^ h) (λ x l. and-false (P (2 ^ h + x)) _ (λ _. eqb·suc-zero (ones h x))))
 
 pub on-suc : (P : ℕ → Bool) (h m : ℕ) → countOn P (suc h) (suc m) ≡ countOn P h (suc m) + countOn (λ x. P (2 ^ h + x)) h m
 unfolding countOn
@@ -109,8 +105,7 @@ sum-add f g (suc m) = omega (arith, sum-add f g m)
 
 none : (b : Bool) → indicator (b && false) ≡ 0
 unfolding indicator
-none true = refl
-none false = refl
+none b = ap indicator (and-false b false (λ _. refl))
 
 -- among the numbers below m one is o, if o is below m
 before-it : (b : Bool) (o m : ℕ) → m ≤ o → sum (λ i. indicator (b && eqb o i)) m ≡ 0

@@ -1,15 +1,15 @@
 -- Counting by the row of an edge's node, in the terms of the code. Assumes nothing.
 use Prim.Native.Nat.{ℕ, _+_, _*_, _/_, _%_, _≤_, _<_}
-use mathlib.Core.Path.{_≡_, sym, _∙_}
+use mathlib.Core.Path.{_≡_}
 use mathlib.Core.Bool.{Bool, true, false}
 use mathlib.Core.List.{List}
 use native.Mathlib.Omega.{arith}
 use native.Mathlib.Nat.{le-refl, mod-lt}
 use lib.Dec.{lit<, eqb}
 use lib.ListN.{length}
-use borrow.Author.Tests.{eqb-true, eqb-false}
 use Rattle.words.specs.Words.{wordAt}
 use Rattle.diagram.specs.Meaning.{under}
+use Rattle.diagram.proofs.Edges.{flag-set, flag-clear}
 use Rattle.pascal.specs.Triangle.{binomial}
 use Rattle.rows.specs.Inner.{expand, opposed, turned, from, rowOf, Opens, CountsUnder}
 use Rattle.rows.proofs.Modular.{Same}
@@ -38,13 +38,10 @@ module _ (s : List ℕ) (e n m v : ℕ) (v-is : v ≡ e / 2) (sum all : ℕ) (su
 
   pub counts-plain : f ≡ false → d ≡ (all + sum) % 18446744073709551616 → CountsUnder s e n m (d / 2)
   unfolding turned
-  counts-plain q d-is =
-      let z : e % 2 ≡ 0 = omega (arith, eqb-false (e % 2) 1 (sym f-is ∙ q)) in
-      counted (rw d-is (mod-lt (all + sum) (lit< tt))) (rw z (more-same d all sum _ d-is sum-is))
+  counts-plain q d-is = counted (rw d-is (mod-lt (all + sum) (lit< tt))) (rw (flag-clear e f f-is q) (more-same d all sum _ d-is sum-is))
 
   pub counts-flagged : f ≡ true → d < 18446744073709551616 → (d + sum) % 18446744073709551616 ≡ all → CountsUnder s e n m (d / 2)
   unfolding turned
   counts-flagged q fits d-is =
-      let o : e % 2 ≡ 1 = eqb-true (e % 2) 1 (sym f-is ∙ q) in
       let at = (m + 1) * v in
-      counted fits (rw o (less-same d all sum (expand (from s at) n m) (expand (opposed (from s at)) n m) d-is sum-is (opposed-sum (from s at) (from-fits s at) n m)))
+      counted fits (rw (flag-set e f f-is q) (less-same d all sum (expand (from s at) n m) (expand (opposed (from s at)) n m) d-is sum-is (opposed-sum (from s at) (from-fits s at) n m)))

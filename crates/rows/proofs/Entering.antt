@@ -7,7 +7,6 @@ use native.Mathlib.Omega.{arith}
 use native.Mathlib.Nat.{mod-lt, mul-le-mul-left}
 use lib.Dec.{lit<, eqb}
 use lib.ListN.{length}
-use borrow.Author.Tests.{eqb-true, eqb-false}
 use Rattle.words.specs.Words.{wordAt, putWord}
 use Rattle.words.specs.Swap.{swap}
 use Rattle.diagram.specs.Format.{Words, height}
@@ -15,6 +14,7 @@ use Rattle.diagram.specs.Meaning.{plain, under}
 use Rattle.diagram.specs.Reading.{IsRecord}
 use Rattle.diagram.proofs.Paths.{Lower, tall-node}
 use Rattle.diagram.proofs.Inside.{high-lower, low-lower}
+use Rattle.diagram.proofs.Edges.{flag-set, flag-clear}
 use Rattle.diagram.proofs.Counts.{under-period, else-half, then-half}
 use Rattle.rows.specs.Inner.{opposed, turned, Stands, from, rowOf, Mixes, Rows, Next, Entered}
 use Rattle.rows.proofs.Modular.{Same, turned-first, turned-next}
@@ -115,9 +115,8 @@ module _ (t s : List ℕ) (m k h a b : ℕ) (p : 0 < k) (R : Next t s m k) (r : 
     pub entered-plain : (f : Bool) → f ≡ eqb (b % 2) 1 → f ≡ false → r₀ ≡ first → Mixes s₁ s′ (to + 1) high (low + 1) low m → Entered t s s′ m k
     unfolding turned
     entered-plain f f-is q e M =
-        let z : b % 2 ≡ 0 = omega (arith, eqb-false (b % 2) 1 (sym f-is ∙ q)) in
         entered (low + 1) low M
-        (rw (z, ← u-is, ← v-is) record {
+        (rw (flag-clear b f f-is q, ← u-is, ← v-is) record {
           small = from-fits s′ to;
           first = ap (_% 18446744073709551616) (row-first (low + 1) low M ∙ e ∙ low-first);
           next = λ i l. rw (kept low i (omega (arith, low-before v v-is)), kept (low + 1) i (omega (arith, low-before v v-is)), from-next s low i) at (row-next (low + 1) low M i l);
@@ -126,9 +125,8 @@ module _ (t s : List ℕ) (m k h a b : ℕ) (p : 0 < k) (R : Next t s m k) (r : 
     pub entered-flagged : (f : Bool) → f ≡ eqb (b % 2) 1 → f ≡ true → (r₀ + first) % 18446744073709551616 ≡ 0 → Mixes s₁ s′ (to + 1) high low (low + 1) m → Entered t s s′ m k
     unfolding turned opposed
     entered-flagged f f-is q e M =
-        let o : b % 2 ≡ 1 = eqb-true (b % 2) 1 (sym f-is ∙ q) in
         entered low (low + 1) M
-        (rw (o, ← u-is, ← v-is) record {
+        (rw (flag-set b f f-is q, ← u-is, ← v-is) record {
           small = from-fits s′ to;
           first = rw (row-first low (low + 1) M) (turned-first r₀ (from s low 0) (from-fits s low 0) (rw low-first at e));
           next = λ i l. turned-next _ _ _ _ (from-fits s low i) (from-fits s low (suc i)) (rw (kept low i (omega (arith, low-before v v-is)), kept (low + 1) i (omega (arith, low-before v v-is)), from-next s low i) at (row-next low (low + 1) M i l));

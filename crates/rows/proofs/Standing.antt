@@ -1,7 +1,7 @@
 -- What rows stand for: the sink, flags, and a setting of which half of the setups are on. Assumes nothing.
 use Prim.Native.Nat.{ℕ, zero, suc, _+_, _-_, _/_, _%_, _^_, _≤_, _<_}
 use mathlib.Core.Path.{_≡_, refl, sym, ap, ap₂, subst, _∙_}
-use mathlib.Core.Bool.{Bool, true, false, not}
+use mathlib.Core.Bool.{Bool, true, not, Bool·not-not}
 use native.Mathlib.Omega.{arith}
 use native.Mathlib.Nat.{le-refl}
 use Rattle.words.proofs.Cases.{less, same, more, tri}
@@ -123,12 +123,8 @@ module _ (P : ℕ → Bool) (a : ℕ → ℕ) (m h : ℕ) (small : (i : ℕ) →
       let c = countOn P h j in
       let n = countOn (λ x. not (P x)) h j in
       let regroup : e + (expand a h j + n) ≡ e + expand a h j + n = omega arith in
-      rw (on-cong (λ x. not (not (P x))) P h j (λ x _. twice (P x)))
+      rw (on-cong (λ x. not (not (P x))) P h j (λ x _. Bool·not-not (P x)))
       (add-same e c e (expand a h j + n) refl (sym (S .balance j l)) ∙ ap (_% 18446744073709551616) regroup ∙ add-same (e + expand a h j) n 0 n (opposed-sum a small h j) refl ∙ omega arith)
-    where
-      twice : (b : Bool) → not (not b) ≡ b
-      twice true = refl
-      twice false = refl
 
   pub flagged : (f : ℕ) → Stands (λ x. flip f (P x)) (turned f a) m h
   unfolding flip turned

@@ -4,7 +4,7 @@
 ghost use mathlib.Core.Path.{_≡_};
 ghost use Prim.Native.Nat.{_+_, _*_, _%_, _^_, _≤_, _<_};
 ghost use lib.ListN.{length};
-ghost use Rattle.pascal.specs.Triangle.{triangle};
+ghost use Rattle.pascal.specs.Triangle.{PascalsRule};
 ghost use Rattle.rows.specs.Inner.{expand, from, Mixes, Next, Entered, Rows, Fillable, Opened, CountsUnder};
 use diagram::Edge;
 use diagram::Node;
@@ -73,7 +73,7 @@ pub fn fill(table: &[u8], sheet: &mut [u8], n: u64, nodes: usize, m: usize)
 
 // The sum of the m + 1 numbers from place `at` on, number i times the binomial coefficient of n - i and m - i, modulo 2^64.
 fn expand_row(sheet: &[u8], binomials: &[u64; 2080], at: usize, n: usize, m: usize) -> u64
-    requires { ⌜ (now binomials ≡ triangle 64) × (n ≤ 63) × (m ≤ n) × (8 * (at + m + 1) ≤ length (now sheet)) ⌝ }
+    requires { ⌜ PascalsRule (now binomials) 64 × (n ≤ 63) × (m ≤ n) × (8 * (at + m + 1) ≤ length (now sheet)) ⌝ }
     ensures { λ r. ⌜ r ≡ expand (from (now (sheet .entry)) at) n m % 2 ^ 64 ⌝ }
 {
     let mut sum = 0;

@@ -16,7 +16,8 @@ use Rattle.checking.specs.Sheets.{HandedBack}
 use Rattle.checking.proofs.Blank.{Late, hands-back}
 use Rattle.pascal.specs.Ones.{sum}
 use Rattle.pascal.proofs.Weights.{on-past, on-sum}
-use Rattle.weighing.specs.Operations.{needed, totalOn, countingOn, AddUp}
+use Rattle.weighing.specs.Operations.{needed, totalOn, countingOn}
+use Rattle.weighing.specs.AddUp.{AddUp}
 
 -- the counts over all m from 0 to n add up to C
 pub add-up : AddUp

@@ -1,14 +1,12 @@
 -- Counting by how many settings are on: what is answered. The sheet is handed back blank (`blankFor needed`). Assumes nothing.
-use Prim.Native.Nat.{ℕ, suc, _+_, _*_}
-use mathlib.Core.Path.{_≡_}
+use Prim.Native.Nat.{ℕ, _+_, _*_}
 use mathlib.Core.List.{List}
 use Rattle.words.specs.Words.{wordAt}
 use Rattle.diagram.specs.Format.{Words, settings}
 use Rattle.diagram.specs.Meaning.{permitted}
-use Rattle.diagram.specs.Count.{total}
 use Rattle.diagram.specs.Answer.{Answer, value, andThen}
 use Rattle.checking.specs.Operations.{checkingFor}
-use Rattle.pascal.specs.Ones.{countOn, sum}
+use Rattle.pascal.specs.Ones.{countOn}
 
 -- the places of the sheet that are needed for a table of N nodes
 abbrev pub needed : ℕ → ℕ
@@ -21,7 +19,3 @@ totalOn w m = countOn (permitted w) (settings w) m
 -- counting them, after the table's own refusals
 unfoldable pub countingOn : List ℕ → ℕ → List ℕ → Answer ℕ
 countingOn table m sheet = andThen (checkingFor needed table sheet) (λ _. value (totalOn (wordAt table) m))
-
--- the counts over all m from 0 to n add up to C, of any table
-abbrev pub AddUp : Type 0
-AddUp = (w : Words) → sum (totalOn w) (suc (settings w)) ≡ total w

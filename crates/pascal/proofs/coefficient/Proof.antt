@@ -1,11 +1,7 @@
 -- `pascal::coefficient` meets its contract: where an entry stands. Assumes nothing.
-use Prim.Native.Nat.{ℕ, _+_, _*_, _/_}
-use mathlib.Core.Path.{ap, _∙_}
-use mathlib.Core.List.{List}
 use native.Mathlib.Omega.{arith}
 use borrow.Author.Needs.{needs}
-use lib.ListN.{getD}
-use Rattle.pascal.proofs.Pascal.{place-inside, place-holds}
+use Rattle.pascal.proofs.Pascal.{place-inside, rule-entry}
 use Rattle.pascal.proofs.coefficient.Statement.{statement}
 use Rattle.pascal.proofs.coefficient.Tie as tie
 
@@ -22,10 +18,7 @@ element-copy-out-result : tie.Need-element-copy-out-result
 element-copy-out-result c = let p = c .pre in place-inside _ _ (p .1) (p .2)
 
 returns : tie.Need-returns
-returns c =
-    let p = c .before .pre in
-    let a = c .before .args in
-    ap (λ (l : List ℕ). getD l (a .g * (a .g + 1) / 2 + a .i) 0) (p .0) ∙ place-holds _ _ (p .1) (p .2)
+returns c = let p = c .before .pre in rule-entry _ 64 (p .0) _ _ (omega arith) (p .2)
 
 pub coefficient-spec : {M : Type 1} → statement M
 coefficient-spec = tie.close (tie.spec (λ c. search needs) mul-result add-result-2 mul-result-2 element-copy-out-result returns)

@@ -18,7 +18,7 @@ coefficient-requires : tie.Need-coefficient-requires
 coefficient-requires c κs =
     let table = c .before .before .before .before .before in
     let O = table .before .before .pre .1 in
-    (table .binomials .ensures, O .few, O .some)
+    (table .binomials .ensures, omega (arith, O .few, O .some), omega (arith, O .some))
 
 returns : tie.Need-returns
 returns c =
