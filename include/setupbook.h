@@ -40,7 +40,7 @@
  * has. These memories share no byte, but two tables may be the same one or overlap, and nobody else
  * writes them during a call. No pointer is null; none needs an alignment but `answer`, that of its
  * numbers. Lengths and contents may be any: there is nothing to check before a call. A call allocates
- * nothing, keeps nothing and takes about 70 KiB of stack.
+ * nothing, keeps nothing and takes about 70 KiB of stack, count-on 81.
  *
  * Sheet afterwards: unchanged by refusals 1 to 8, and 10. After everything else, a result or a
  * refusal, the words that the call requires are zero: N + 1, N + 512 for part-write, 64 * (N + 1) for
