@@ -30,11 +30,11 @@ static FILE *opened(const char *path, const char *mode)
 
 static void read_instructions(const char *path, struct results *r)
 {
-    unsigned w, op, side, lines = 0, all = (4 * OPERATIONS + ROWS + LOOSE) * SIDES, two = WORKLOADS, loose = two + ROWS;
+    unsigned w, op, side, lines = 0, all = (4 * OPERATIONS + 2 + ROWS + LOOSE) * SIDES, two = MEASURED, loose = two + ROWS;
     double count;
     FILE *f = opened(path, "r");
     for (; fscanf(f, "%u %u %u %lf", &w, &op, &side, &count) == 4; lines++) {
-        if (w < WORKLOADS && op < OPERATIONS && side < SIDES) r->instructions[w][op][side] = count / COUNTED_CALLS;
+        if (w < MEASURED && op < OPERATIONS && side < SIDES) r->instructions[w][op][side] = count / COUNTED_CALLS;
         if (w >= two && w < loose && side < SIDES) r->row_instructions[w - two][side] = count;
         if (w >= loose && w < loose + LOOSE && side < SIDES) r->loose_instructions[w - loose][side] = count;
     }
@@ -47,12 +47,12 @@ static void read_instructions(const char *path, struct results *r)
 /* One pass over all workloads. */
 static void time_workloads(const struct results *r, double (*micros)[OPERATIONS][CONDITIONS][SIDES], double (*buddy)[BUDDY])
 {
-    for (int w = 0; w < WORKLOADS; w++) {
+    for (int w = 0; w < MEASURED; w++)
         for (int op = 0; op < OPERATIONS; op++)
             for (int c = 0; c < CONDITIONS; c++)
-                time_both(&r->table[w], op, c, w == WIDE ? WIDE_SECONDS : CELL_SECONDS, micros[w][op][c]);
-        time_buddy(&r->table[w], BUDDY_SECONDS, buddy[w]);
-    }
+                if (is_called(op, w))
+                    time_both(&r->table[w], op, c, w == WIDE ? WIDE_SECONDS : CELL_SECONDS, micros[w][op][c]);
+    for (int w = 0; w < WORKLOADS; w++) time_buddy(&r->table[w], BUDDY_SECONDS, buddy[w]);
 }
 
 /* One pass over the rows of two tables. */
@@ -121,7 +121,7 @@ static void best_for_buddy(double (*passes)[BUDDY], unsigned rows, double (*out)
 
 static void time_all(struct results *r, struct point *points)
 {
-    static double micros[PASSES][WORKLOADS][OPERATIONS][CONDITIONS][SIDES];
+    static double micros[PASSES][MEASURED][OPERATIONS][CONDITIONS][SIDES];
     double buddy[PASSES][WORKLOADS][BUDDY], lines[PASSES][POINTS * LINES], line[POINTS * LINES];
     double row_micros[PASSES][ROWS][CONDITIONS][SIDES], row_buddy[SIZINGS][PASSES][ROWS][BUDDY];
     double row_full[PASSES][ROWS][SIDES], loose_micros[PASSES][LOOSE][CONDITIONS][SIDES], loose_buddy[PASSES][LOOSE][BUDDY];
@@ -133,7 +133,7 @@ static void time_all(struct results *r, struct point *points)
         time_points(points);
         for (int i = 0; i < POINTS * LINES; i++) lines[p][i] = points[i / LINES].micros[i % LINES];
     }
-    quietest(&micros[0][0][0][0][0], WORKLOADS * OPERATIONS * CONDITIONS, &r->micros[0][0][0][0]);
+    quietest(&micros[0][0][0][0][0], MEASURED * OPERATIONS * CONDITIONS, &r->micros[0][0][0][0]);
     quietest(&row_micros[0][0][0][0], ROWS * CONDITIONS, &r->row_micros[0][0][0]);
     quietest(&row_full[0][0][0], ROWS, &r->row_full[0][0]);
     quietest(&loose_micros[0][0][0][0], LOOSE * CONDITIONS, &r->loose_micros[0][0][0]);
@@ -147,9 +147,12 @@ static void time_all(struct results *r, struct point *points)
 /* Makes the tables and compares ours with plain C on them. */
 static void compare_all(struct results *r)
 {
-    for (int w = 0; w < WORKLOADS; w++) {
-        r->table[w] = workload(w);
-        r->calls += compare(&r->table[w]);
+    for (int w = 0; w < ALL_WORKLOADS; w++) {
+        struct table t = workload(w);
+        for (int op = 0; op < OPERATIONS; op++)
+            if (is_called(op, w)) r->calls += compare(&t, op);
+        if (w < MEASURED) r->table[w] = t;
+        else free(t.bytes);
     }
     for (int i = 0; i < ALL_ROWS; i++) {
         struct two w = row(i);

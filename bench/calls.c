@@ -12,6 +12,7 @@ uint64_t plain_check(T, S), plain_count(T, S), plain_test(T, uint64_t setup, S);
 uint64_t plain_rank(T, uint64_t setup, S), plain_unrank(T, uint64_t rank, S);
 uint64_t plain_span_size(T, uint64_t k, uint64_t j, S), plain_part_write(T, uint64_t k, uint64_t j, S, O);
 uint64_t plain_ruled_out(T, uint64_t setup, S, uint64_t answer[3]), plain_count_on(T, uint64_t m, S, uint64_t answer[3]);
+uint64_t plain_closest(T, uint64_t setup, S, uint64_t answer[3]);
 uint64_t plain_unrank_list(T, const uint8_t *ranks, size_t ranks_len, S, O, uint64_t answer[3]);
 uint64_t plain_make_proper(T, S, O, uint64_t answer[3]);
 #define TWO T, S, const uint8_t *table2, size_t table2_len, uint8_t *sheet2, size_t sheet2_len
@@ -26,9 +27,10 @@ uint64_t plain_without(TWO, P, O, uint64_t answer[3]);
 
 const char *operation_name(enum operation op)
 {
-    static const char *const names[] = {"check",        "count",       "test",          "rank",      "unrank",      "span",
-                                        "part-write",   "list spread", "list in a row", "ruled out", "count on, 3",
-                                        "count on, 31", "make proper", "joined",        "shared",    "without"};
+    static const char *const names[] = {"check",        "count",          "test",           "rank",        "unrank",      "span",
+                                        "part-write",   "list spread",    "list in a row",  "ruled out",   "count on, 3",
+                                        "count on, 31", "closest, 1 off", "closest, 2 off", "make proper", "joined",
+                                        "shared",       "without"};
     return names[op];
 }
 
@@ -47,10 +49,21 @@ int is_count_on(enum operation op)
     return op == COUNT_ON_3 || op == COUNT_ON_31;
 }
 
+int is_closest(enum operation op)
+{
+    return op == CLOSEST_1 || op == CLOSEST_2;
+}
+
+int is_called(enum operation op, enum workload w)
+{
+    return w < WORKLOADS || is_closest(op);
+}
+
 size_t sheet_len_of(enum operation op, uint32_t count)
 {
     size_t records = count;
     if (is_count_on(op)) return 8 * 64 * (records + 1);
+    if (is_closest(op)) return 8 * 2 * (records + 1);
     return 8 * (op == PART_WRITE ? records + 512 : op == MAKE_PROPER ? 8 * records + 512 : records + 1);
 }
 
@@ -68,6 +81,8 @@ static uint64_t ours(enum operation op, const struct lent *m, struct numbers x)
     case RULED_OUT: return setupbook_ruled_out(m->table, m->table_len, x.a, m->sheet, m->sheet_len, m->answer);
     case COUNT_ON_3:
     case COUNT_ON_31: return setupbook_count_on(m->table, m->table_len, x.a, m->sheet, m->sheet_len, m->answer);
+    case CLOSEST_1:
+    case CLOSEST_2: return setupbook_closest(m->table, m->table_len, x.a, m->sheet, m->sheet_len, m->answer);
     case MAKE_PROPER:
         return setupbook_make_proper(m->table, m->table_len, m->sheet, m->sheet_len, m->out, m->out_len, m->answer);
     default:
@@ -90,6 +105,8 @@ static uint64_t plain(enum operation op, const struct lent *m, struct numbers x)
     case RULED_OUT: return plain_ruled_out(m->table, m->table_len, x.a, m->sheet, m->sheet_len, m->answer);
     case COUNT_ON_3:
     case COUNT_ON_31: return plain_count_on(m->table, m->table_len, x.a, m->sheet, m->sheet_len, m->answer);
+    case CLOSEST_1:
+    case CLOSEST_2: return plain_closest(m->table, m->table_len, x.a, m->sheet, m->sheet_len, m->answer);
     case MAKE_PROPER:
         return plain_make_proper(m->table, m->table_len, m->sheet, m->sheet_len, m->out, m->out_len, m->answer);
     default:

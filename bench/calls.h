@@ -1,14 +1,17 @@
 /* The operations by number, of the library ("ours") and of plain.c ("plain C"): of span the size; unrank-list twice, for
- * two lists, and count-on twice, for 3 and for 31 settings on. */
+ * two lists, count-on twice, for 3 and for 31 settings on, and closest twice, for setups that are one and two off. */
 #ifndef CALLS_H
 #define CALLS_H
 
 #include <stddef.h>
 #include <stdint.h>
 
+#include "tables.h"
+
 /* OPERATIONS: those on one table that has to be proper. Then the one on a loose table, and those on two. */
 enum operation {
-    CHECK, COUNT, TEST, RANK, UNRANK, SPAN, PART_WRITE, LIST_SPREAD, LIST_ROW, RULED_OUT, COUNT_ON_3, COUNT_ON_31, OPERATIONS,
+    CHECK, COUNT, TEST, RANK, UNRANK, SPAN, PART_WRITE, LIST_SPREAD, LIST_ROW, RULED_OUT, COUNT_ON_3, COUNT_ON_31, CLOSEST_1,
+    CLOSEST_2, OPERATIONS,
     MAKE_PROPER = OPERATIONS, JOINED, SHARED, WITHOUT
 };
 enum side { OURS, PLAIN, SIDES };
@@ -17,8 +20,9 @@ enum side { OURS, PLAIN, SIDES };
 #define PART 3
 #define ITEMS 8192 /* numbers of the lists that are timed */
 
-/* The memories lent to a call. A list's setups go to the out memory; its answer, ruled-out's, count-on's, make-proper's and
- * that of an operation on two tables have three words. Only the latter has a second table, its sheet and a pair sheet. */
+/* The memories lent to a call. A list's setups go to the out memory; its answer, ruled-out's, count-on's, closest's,
+ * make-proper's and that of an operation on two tables have three words. Only the latter has a second table, its sheet and a
+ * pair sheet. */
 struct lent {
     const uint8_t *table;
     size_t table_len;
@@ -47,9 +51,13 @@ const char *operation_name(enum operation op);
 int is_list(enum operation op);
 int is_of_part(enum operation op); /* span or part-write */
 int is_count_on(enum operation op);
+int is_closest(enum operation op);
 
-/* The sheet for a table of N records: N + 1 places, N + 512 for part-write, 64 * (N + 1) for count-on, and 8 * N + 512 for
- * make-proper. */
+/* Whether an operation is called on a workload: any on the first WORKLOADS, closest alone on the others. */
+int is_called(enum operation op, enum workload w);
+
+/* The sheet for a table of N records: N + 1 places, N + 512 for part-write, 64 * (N + 1) for count-on, 2 * (N + 1) for
+ * closest, and 8 * N + 512 for make-proper. */
 size_t sheet_len_of(enum operation op, uint32_t count);
 
 /* An operation on one table; one on two. */

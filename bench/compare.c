@@ -65,7 +65,7 @@ static int calls_of(enum operation op, const struct table *t)
     return op == COUNT_ON_3 ? (int)t->settings + 5 : op == COUNT_ON_31 ? 0 : CALLS;
 }
 
-/* Call i of them: the first ones at the ends of the ranges, the others random. */
+/* Call i of them: the first ones at the ends of the ranges, the others random; the last ones of closest are permitted. */
 static struct numbers numbers_of(enum operation op, const struct table *t, struct pair *p, int i)
 {
     uint64_t count = t->total, all = (uint64_t)1 << t->settings, r = next_random(&p->seed);
@@ -80,7 +80,7 @@ static struct numbers numbers_of(enum operation op, const struct table *t, struc
     if (is_count_on(op)) return (struct numbers){on_of(t, i), 0};
     if (i < 6) return (struct numbers){op == UNRANK ? ranks[i] : setups[i], 0};
     if (i < 14 && op != UNRANK) return (struct numbers){r >> (64 - t->settings), 0};
-    return draw_numbers(op, t, &p->of[PLAIN], &p->seed);
+    return draw_numbers(is_closest(op) && i >= 20 ? RANK : op, t, &p->of[PLAIN], &p->seed);
 }
 
 /* The timed list with other lengths, one item another number, then all numbers raised. */
@@ -141,7 +141,7 @@ static void damage_word(uint8_t *table, uint64_t k, uint64_t bit, int kind)
 /* Damage i of DAMAGED: a wrong length, a short sheet or out memory, the header, a record, the last one, or a place too few. */
 static void damage(const struct table *t, struct pair *p, enum operation op, int i)
 {
-    uint64_t k = next_random(&p->seed) % t->count + 1, bit = next_random(&p->seed) % 64;
+    uint64_t k = t->count ? next_random(&p->seed) % t->count + 1 : 0, bit = next_random(&p->seed) % 64;
     uint64_t out = next_random(&p->seed) % (8 * ((size_t)t->count + 2));
     for (int side = 0; side < SIDES; side++) {
         struct lent *m = &p->of[side];
@@ -171,25 +171,23 @@ static void restore(const struct table *t, struct pair *p, enum operation op)
     }
 }
 
-unsigned compare(const struct table *t)
+unsigned compare(const struct table *t, enum operation op)
 {
-    struct pair p = {{{0}}, t->count, 0};
-    for (int op = 0; op < OPERATIONS; op++) {
-        for (int side = 0; side < SIDES; side++) p.of[side] = lend(t, op);
-        for (int i = 0; i < calls_of(op, t); i++) {
-            restore(t, &p, op);
-            struct numbers x = numbers_of(op, t, &p, i);
-            if (is_list(op)) change_list(&p, list_of(t, &p, i));
-            compare_call(t, &p, op, x);
-        }
-        for (int i = 0; i < DAMAGED; i++) {
-            restore(t, &p, op);
-            struct numbers x = draw_numbers(op, t, &p.of[PLAIN], &p.seed);
-            damage(t, &p, op, i);
-            compare_call(t, &p, op, x);
-        }
-        for (int side = 0; side < SIDES; side++) give_back(&p.of[side]);
+    struct pair p = {{lend(t, op), lend(t, op)}, t->count + op, 0};
+    for (int i = 0; i < calls_of(op, t); i++) {
+        restore(t, &p, op);
+        struct numbers x = numbers_of(op, t, &p, i);
+        if (is_list(op)) change_list(&p, list_of(t, &p, i));
+        compare_call(t, &p, op, x);
     }
+    for (int i = 0; i < DAMAGED; i++) {
+        restore(t, &p, op);
+        struct numbers x = draw_numbers(op, t, &p.of[PLAIN], &p.seed);
+        damage(t, &p, op, i);
+        compare_call(t, &p, op, x);
+    }
+    give_back(&p.of[OURS]);
+    give_back(&p.of[PLAIN]);
     return p.calls;
 }
 

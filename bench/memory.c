@@ -6,6 +6,8 @@
 
 #include "../include/setupbook.h"
 
+#define TRIES 32 /* settings turned over at most, to get as far off as closest is asked */
+
 static uint8_t *pages(size_t len)
 {
     size_t whole = (len + GUARD + 4095) / 4096 * 4096;
@@ -101,15 +103,35 @@ void give_back(struct lent *m)
     free(m->answer);
 }
 
+/* The setup with some setting turned over. */
+static uint64_t turned(const struct table *t, uint64_t setup, uint64_t *seed)
+{
+    return setup ^ (uint64_t)1 << next_random(seed) % t->settings;
+}
+
+/* The permitted setup with settings turned over that each take it further off, until it is as far as the row says. */
+static uint64_t taken_off(enum operation op, const struct table *t, const struct lent *m, uint64_t setup, uint64_t *seed)
+{
+    uint64_t wanted = op == CLOSEST_1 ? 1 : 2, off = 0;
+    for (int i = 0; i < TRIES && off < wanted; i++) {
+        uint64_t other = turned(t, setup, seed);
+        call(PLAIN, op, m, (struct numbers){other, 0});
+        if (m->answer[1] <= off) continue;
+        off = m->answer[1];
+        setup = other;
+    }
+    return setup;
+}
+
 struct numbers draw_numbers(enum operation op, const struct table *t, const struct lent *m, uint64_t *seed)
 {
-    uint64_t r = next_random(seed), rank = r % t->total;
+    uint64_t r = next_random(seed), any = r >> (64 - t->settings), rank = t->total ? r % t->total : 0;
     if (is_of_part(op)) return (struct numbers){PARTS, PART};
     if (is_list(op)) return (struct numbers){0, 0};
     if (is_count_on(op)) return (struct numbers){op == COUNT_ON_3 ? 3 : 31, 0};
     if (op == UNRANK) return (struct numbers){rank, 0};
-    if (op == TEST && next_random(seed) >> 63) return (struct numbers){r >> (64 - t->settings), 0};
+    if (!t->total || (op == TEST && next_random(seed) >> 63)) return (struct numbers){any, 0};
     uint64_t permitted = call(PLAIN, UNRANK, m, (struct numbers){rank, 0});
-    if (op == RULED_OUT) permitted ^= (uint64_t)1 << next_random(seed) % t->settings;
-    return (struct numbers){permitted, 0};
+    if (op == RULED_OUT) return (struct numbers){turned(t, permitted, seed), 0};
+    return (struct numbers){is_closest(op) ? taken_off(op, t, m, permitted, seed) : permitted, 0};
 }

@@ -10,6 +10,7 @@
 #define PART_WRITE_BAR 1.5
 #define LIST_BAR 1.5
 #define COUNT_ON_BAR 1.5
+#define CLOSEST_BAR 1.5
 #define TWO_BAR 2.5
 #define PROPER_BAR 1.5
 #define LOOSE_BAR 2.0
@@ -48,15 +49,17 @@ static void print_medians(const struct results *r)
     printf("## Times\n\n"
            "Medians in µs a call, ours and plain C by turns, of the quietest of five passes; ratio = ours / plain C.\n"
            "Span and part-write: part %d of %d. A list has %d numbers, drawn over the whole count, or neighbours in its middle.\n"
-           "Count on: exactly 3 settings on, or 31; its sheet has 64 places a node.\n"
+           "Count on: exactly 3 settings on, or 31; its sheet has 64 places a node. Closest: permitted setups with one setting or two\n"
+           "turned over, and no permitted one closer, but for sample A and the wide tables, where none drawn was two off.\n"
            "Warm: the same memory again and again. Cleared: before each call sheet and out memory are zeroed, and they,\n"
            "the table and the list are flushed from the caches.\n\n"
-           "| table       |      N | operation     | ours warm | plain warm | ratio | ours cleared | plain cleared | ratio |\n"
-           "|-------------|-------:|---------------|----------:|-----------:|------:|-------------:|--------------:|------:|\n",
+           "| table              |     N | operation      | ours warm | plain warm | ratio | ours cleared | plain cleared | ratio |\n"
+           "|--------------------|------:|----------------|----------:|-----------:|------:|-------------:|--------------:|------:|\n",
            PART, PARTS, ITEMS);
-    for (int w = 0; w < WORKLOADS; w++)
+    for (int w = 0; w < MEASURED; w++)
         for (int op = 0; op < OPERATIONS; op++) {
-            printf("| %-11s | %6u | %-13s |", r->table[w].name, r->table[w].count, operation_name(op));
+            if (!is_called(op, w)) continue;
+            printf("| %-18s | %5u | %-14s |", r->table[w].name, r->table[w].count, operation_name(op));
             print_two_conditions(r->micros[w][op]);
         }
     printf("\n![rank and part-write against N](bench.svg)\n\n");
@@ -65,15 +68,15 @@ static void print_medians(const struct results *r)
 static void print_instructions(const struct results *r)
 {
     printf("## Instructions\n\n"
-           "Instructions a call, counted by callgrind, libc's included: the noise-free ratio.\n\n"
-           "| table       | operation     |     ours |  plain C | ratio |\n"
-           "|-------------|---------------|---------:|---------:|------:|\n");
-    for (int w = 0; w < WORKLOADS; w++)
+           "Instructions a call, and a record, counted by callgrind, libc's included: the noise-free ratio.\n\n"
+           "| table              | operation      |     ours |  plain C | ours a record | plain C a record | ratio |\n"
+           "|--------------------|----------------|---------:|---------:|--------------:|-----------------:|------:|\n");
+    for (int w = 0; w < MEASURED; w++)
         for (int op = 0; op < OPERATIONS; op++) {
-            const double *i = r->instructions[w][op];
+            const double *i = r->instructions[w][op], records = r->table[w].count;
             if (i[OURS] > 0)
-                printf("| %-11s | %-13s | %8.0f | %8.0f | %5.2f |\n", r->table[w].name, operation_name(op), i[OURS], i[PLAIN],
-                       i[OURS] / i[PLAIN]);
+                printf("| %-18s | %-14s | %8.0f | %8.0f | %13.1f | %16.1f | %5.2f |\n", r->table[w].name, operation_name(op),
+                       i[OURS], i[PLAIN], i[OURS] / records, i[PLAIN] / records, i[OURS] / i[PLAIN]);
         }
     printf("\n");
 }
@@ -99,9 +102,9 @@ static void print_bar(const char *operation, const char *what, const char *bound
 {
     int holds = !strcmp(bound, "≥") ? measured >= bar : !strcmp(bound, "<") ? measured < bar : measured <= bar;
     if (*bound)
-        printf("| %-13s %-39s | %s %6.2f | %8.2f | %-7s |\n", operation, what, bound, bar, measured, holds ? "holds" : "missed");
+        printf("| %-14s %-38s | %s %6.2f | %8.2f | %-7s |\n", operation, what, bound, bar, measured, holds ? "holds" : "missed");
     else
-        printf("| %-13s %-39s |          | %8.2f |         |\n", operation, what, measured);
+        printf("| %-14s %-38s |          | %8.2f |         |\n", operation, what, measured);
 }
 
 /* The list beside single calls, and what its numbers cost where they are neighbours. */
@@ -121,8 +124,24 @@ static void print_count_on_bars(const struct results *r)
 {
     double few = r->instructions[WIDE][COUNT_ON_3][OURS], many = r->instructions[WIDE][COUNT_ON_31][OURS];
     const double *exactly = r->instructions[EXACTLY_31][COUNT_ON_31];
-    print_bar("count on, 31", "31 of 63: ours / plain C, instructions", "≤", COUNT_ON_BAR, exactly[OURS] / exactly[PLAIN]);
+    print_bar("count on, 31", "31 of 63: instructions", "≤", COUNT_ON_BAR, exactly[OURS] / exactly[PLAIN]);
     print_bar("count on, 3", "3 on / 31 on, instructions", "≤", FEW_BAR, few / many);
+}
+
+/* On the multiples of 1,021, where setups are two off. */
+static void print_closest_bars(const struct results *r)
+{
+    for (int op = CLOSEST_1; op <= CLOSEST_2; op++) {
+        const double *i = r->instructions[MULTIPLES_1021][op];
+        print_bar(operation_name(op), "multiples of 1,021: instructions", op == CLOSEST_2 ? "≤" : "", CLOSEST_BAR,
+                  i[OURS] / i[PLAIN]);
+    }
+}
+
+/* Whether one was set on the wide table. */
+static int has_bar(enum operation op)
+{
+    return op != LIST_ROW && op != COUNT_ON_3 && !is_closest(op);
 }
 
 static double bar_of(enum operation op)
@@ -139,12 +158,13 @@ static void print_bars_head(const char *tables, const char *more)
 
 static void print_bars(const struct results *r)
 {
-    print_bars_head("the wide table", "");
+    print_bars_head("the wide table", "Instructions: ours / plain C.\n\n");
     for (int op = 0; op < OPERATIONS; op++)
-        print_bar(operation_name(op), "ours / plain C, instructions", op == LIST_ROW || op == COUNT_ON_3 ? "" : "≤",
-                  bar_of(op), r->instructions[WIDE][op][OURS] / r->instructions[WIDE][op][PLAIN]);
+        print_bar(operation_name(op), "instructions", has_bar(op) ? "≤" : "", bar_of(op),
+                  r->instructions[WIDE][op][OURS] / r->instructions[WIDE][op][PLAIN]);
     print_list_bars(r);
     print_count_on_bars(r);
+    print_closest_bars(r);
     print_bar("count", "BuDDy's whole job / ours", "≥", BUDDY_BAR, r->buddy[WIDE][WHOLE] / r->buddy[WIDE][BESIDE]);
     printf("\n");
 }

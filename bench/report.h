@@ -7,10 +7,10 @@
 #include "timing.h"
 
 struct results {
-    struct table table[WORKLOADS];
+    struct table table[MEASURED];
     unsigned calls; /* compared with plain C */
-    double micros[WORKLOADS][OPERATIONS][CONDITIONS][SIDES];
-    double instructions[WORKLOADS][OPERATIONS][SIDES]; /* 0 if not counted */
+    double micros[MEASURED][OPERATIONS][CONDITIONS][SIDES];
+    double instructions[MEASURED][OPERATIONS][SIDES]; /* 0 if not counted */
     double buddy[WORKLOADS][BUDDY];
     struct two row[ROWS];
     double row_micros[ROWS][CONDITIONS][SIDES];

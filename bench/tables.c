@@ -254,6 +254,8 @@ struct table workload(enum workload w)
     case PATH_63: return path_63();
     case EXACTLY_31: return exactly_31();
     case MIDDLE: return wide("wide 4,000", 4000);
-    default: return wide("wide 65,535", LONGEST);
+    case WIDE: return wide("wide 65,535", LONGEST);
+    case MULTIPLES_1021: return multiples("multiples of 1,021", 1021);
+    default: return closed(empty_table("no setup", TOP), 1);
     }
 }

@@ -31,9 +31,13 @@ uint32_t height_of(const struct table *t, uint32_t k);
 uint32_t then_of(const struct table *t, uint32_t k);
 uint32_t else_of(const struct table *t, uint32_t k);
 
-/* Sample A (3 settings, 3 records); the independent sets of a path of 63 vertices; exactly 31 of 63
- * settings; two random tables, of 4,000 records and of as many as a table can have. */
-enum workload { SAMPLE_A, PATH_63, EXACTLY_31, MIDDLE, WIDE, WORKLOADS };
+/* WORKLOADS: sample A (3 settings, 3 records); the independent sets of a path of 63 vertices; exactly 31
+ * of 63 settings; two random tables, of 4,000 records and of as many as a table can have. Then two for
+ * closest alone: the multiples of 1,021, and a table that permits nothing, which is only compared. */
+enum workload {
+    SAMPLE_A, PATH_63, EXACTLY_31, MIDDLE, WIDE, WORKLOADS,
+    MULTIPLES_1021 = WORKLOADS, MEASURED, EMPTY = MEASURED, ALL_WORKLOADS
+};
 struct table workload(enum workload w);
 
 /* A random table over 63 settings with exactly this many records (256 to 65,535), its heights as

@@ -11,6 +11,7 @@ pub enum Call<'a> {
     CountOn { m: u64 },
     Test { setup: u64 },
     RuledOut { setup: u64 },
+    Closest { setup: u64 },
     Rank { setup: u64 },
     Unrank { rank: u64 },
     UnrankList { ranks: List<'a> },
@@ -25,6 +26,7 @@ impl<'a> Call<'a> {
     pub fn places(self, node_count: u64) -> u64 {
         match self {
             Call::CountOn { .. } => 64 * (node_count + 1),
+            Call::Closest { .. } => 2 * (node_count + 1),
             Call::PartWrite { .. } => node_count + 512,
             Call::MakeProper => 8 * node_count + 512,
             _ => node_count + 1,
@@ -88,10 +90,12 @@ const FIRST_REFUSAL: u64 = (1 << 63) + (1 << 32);
 impl Answer {
     /// A result of one word.
     pub fn result(value: u64) -> Answer {
-        Answer {
-            status: 0,
-            words: [value, 0, 0],
-        }
+        Answer::found([value, 0, 0])
+    }
+
+    /// A result of three words.
+    pub fn found(words: [u64; 3]) -> Answer {
+        Answer { status: 0, words }
     }
 
     pub fn refused(refusal: Refusal) -> Answer {

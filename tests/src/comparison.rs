@@ -117,6 +117,27 @@ impl Comparison {
         written
     }
 
+    /// Any of the `count` setups that a table permits, by its number; none, if it permits none.
+    pub fn any_permitted(&mut self, table: &[u8], count: u64) -> Option<u64> {
+        let rank = (count > 0).then(|| self.rng.below(count))?;
+        Some(self.compare_served(Call::Unrank { rank }, table).value())
+    }
+
+    /// A call with a filled sheet of this length, of which it needs so many bytes. These come back
+    /// blank, unless it is refused by 1 to 8 or 10, and nothing else has changed.
+    pub fn compare_sheet(&mut self, call: Call, table: &[u8], len: usize, needed: usize) {
+        let sheet = sheets::filling(&mut self.rng, len);
+        let outcome = self.compare(call, table, &sheet, &[]);
+        let number = outcome.answer.status;
+        assert_eq!(number == 10, len < needed);
+        let blank = match number {
+            1..=8 | 10 => 0,
+            _ => needed,
+        };
+        assert!(outcome.sheet[..blank].iter().all(|&byte| byte == 0));
+        assert!(outcome.sheet[blank..] == sheet[blank..]);
+    }
+
     /// A call with a sheet and an out memory of these lengths and of random contents.
     pub fn compare_lengths(
         &mut self,
@@ -162,6 +183,7 @@ impl Comparison {
             calls.extend([
                 Call::Test { setup },
                 Call::RuledOut { setup },
+                Call::Closest { setup },
                 Call::Rank { setup },
             ]);
         }

@@ -299,6 +299,7 @@ fn any_call<'a>(rng: &mut Rng, limit: u64, list: List<'a>) -> Call<'a> {
         9 => Call::CountOn {
             m: number_on(rng, limit),
         },
+        10 => Call::Closest { setup: number },
         _ => Call::PartWrite { k, j },
     }
 }

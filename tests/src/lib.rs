@@ -6,7 +6,7 @@
 //! - `paper`: the paper, straight; `reading`: a table, `part`: the table of a part, `loose`: the proper
 //!   table of a loose one, `combined`: two tables made into one, and `listing`: what `setuplist`
 //!   prints, after it
-//! - `pascal`: Pascal's triangle
+//! - `pascal`: Pascal's triangle; `distance`: how many settings setups differ in
 //! - `diagram`: diagrams without flags, from which tables are written
 //! - `library`: the library under test; `memory`: what is lent to it, guarded; `program`: the
 //!   programs, run
@@ -26,6 +26,7 @@ pub mod combining;
 pub mod comparison;
 pub mod damage;
 pub mod diagram;
+pub mod distance;
 pub mod files;
 pub mod fuzz;
 pub mod fuzz_two;

@@ -57,6 +57,14 @@ mod ffi {
             sheet_len: usize,
             answer: *mut u64,
         ) -> u64;
+        pub fn setupbook_closest(
+            table: *const u8,
+            table_len: usize,
+            setup: u64,
+            sheet: *mut u8,
+            sheet_len: usize,
+            answer: *mut u64,
+        ) -> u64;
         pub fn setupbook_unrank_list(
             table: *const u8,
             table_len: usize,
@@ -243,6 +251,9 @@ pub unsafe fn call_with(
         }
         Call::RuledOut { setup } => {
             return in_words(|answer| ffi::setupbook_ruled_out(t, t_len, setup, s, s_len, answer))
+        }
+        Call::Closest { setup } => {
+            return in_words(|answer| ffi::setupbook_closest(t, t_len, setup, s, s_len, answer))
         }
         Call::UnrankList { .. } => {
             return in_words(|answer| {

@@ -2,6 +2,7 @@
 //! and the out memory. Written for clarity.
 
 use crate::call::{Answer, Call, List, Outcome, Refusal};
+use crate::distance::distance;
 use crate::layout::bytes_of;
 use crate::loose;
 use crate::part;
@@ -29,8 +30,12 @@ pub fn expect(call: Call, table: &[u8], sheet: &[u8], out: &[u8]) -> Expected {
         _ => written_refusal(words.as_deref()?, out.len()),
     });
     refusals.extend(own.map(|number| Refusal::new(number, 0)));
-    if let Call::UnrankList { ranks } = call {
-        refusals.extend(list_refusals(ranks, settled.as_ref(), out.len()));
+    match call {
+        Call::UnrankList { ranks } => {
+            refusals.extend(list_refusals(ranks, settled.as_ref(), out.len()));
+        }
+        Call::Closest { .. } => refusals.extend(none_permitted(settled.as_ref())),
+        _ => {}
     }
 
     let first = refusals.first().copied();
@@ -50,10 +55,8 @@ pub fn expect(call: Call, table: &[u8], sheet: &[u8], out: &[u8]) -> Expected {
             let setups = settled.unwrap().setups(ranks);
             Answer::result(put_words(&mut out, &setups) / 8)
         }
-        (None, None, Call::RuledOut { setup }) => Answer {
-            status: 0,
-            words: settled.unwrap().ruled_out(setup),
-        },
+        (None, None, Call::RuledOut { setup }) => Answer::found(settled.unwrap().ruled_out(setup)),
+        (None, None, Call::Closest { setup }) => Answer::found(settled.unwrap().closest(setup)),
         (None, None, _) => Answer::result(settled.unwrap().result(call)),
     };
     let improper = first.is_none() && call == Call::MakeProper && !out.starts_with(table);
@@ -126,8 +129,8 @@ pub fn table_refusals(call: Call, table: &[u8], sheet_len: usize) -> Vec<Refusal
     holding
 }
 
-/// Refusals 12 to 15, of which at most one holds; a list has refusals of its own. 13 and 14 speak
-/// of the permitted setups: they hold only if it is settled which these are.
+/// Refusals 12 to 15, of which at most one holds; a list has refusals of its own, and 21 comes behind.
+/// 13 and 14 speak of the permitted setups: they hold only if it is settled which these are.
 fn examiner_refusal(call: Call, n: Option<u8>, settled: Option<&Settled>) -> Option<u64> {
     let outside = |setup| n.is_some_and(|n| setup >= 1u64 << n);
     match call {
@@ -136,12 +139,15 @@ fn examiner_refusal(call: Call, n: Option<u8>, settled: Option<&Settled>) -> Opt
         | Call::CountOn { .. }
         | Call::UnrankList { .. }
         | Call::MakeProper => None,
-        Call::Test { setup } | Call::RuledOut { setup } | Call::Rank { setup }
+        Call::Test { setup }
+        | Call::RuledOut { setup }
+        | Call::Closest { setup }
+        | Call::Rank { setup }
             if outside(setup) =>
         {
             Some(12)
         }
-        Call::Test { .. } | Call::RuledOut { .. } => None,
+        Call::Test { .. } | Call::RuledOut { .. } | Call::Closest { .. } => None,
         Call::Rank { setup } => settled
             .is_some_and(|settled| !settled.permits(setup))
             .then_some(13),
@@ -190,6 +196,12 @@ fn list_refusals(ranks: List, settled: Option<&Settled>, out_len: usize) -> Vec<
         Some(Refusal::new(number, place))
     });
     holding.collect()
+}
+
+/// Refusal 21, if it is settled that nothing is permitted.
+fn none_permitted(settled: Option<&Settled>) -> Option<Refusal> {
+    let is_empty = settled.is_some_and(|settled| settled.total() == 0);
+    is_empty.then_some(Refusal::new(21, 0))
 }
 
 /// Start and size of part j of k, of `total` setups: it starts at j × C / k, rounded down, and ends
@@ -295,6 +307,12 @@ impl Settled {
         }
     }
 
+    /// The closest permitted setup, and in how many settings it differs.
+    fn closest(&self, setup: u64) -> [u64; 3] {
+        let closest = self.table.closest(setup).unwrap();
+        [closest, distance(closest, setup), 0]
+    }
+
     /// The value that a call answers if nothing is refused and nothing written.
     fn result(&self, call: Call) -> u64 {
         let Settled { table, counts } = self;
@@ -308,6 +326,7 @@ impl Settled {
             Call::SpanStart { k, j } => narrow(span(self.total(), k, j).0),
             Call::SpanSize { k, j } => narrow(span(self.total(), k, j).1),
             Call::RuledOut { .. }
+            | Call::Closest { .. }
             | Call::UnrankList { .. }
             | Call::PartWrite { .. }
             | Call::MakeProper => {

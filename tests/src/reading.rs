@@ -1,6 +1,7 @@
 //! A table read after the paper: its records and their faults, which setups are permitted, and
 //! what the counts and ranks are. Numbers are u128 where they may grow.
 
+use crate::distance::distance;
 use crate::layout::{fields, words_of};
 use crate::pascal;
 
@@ -202,6 +203,53 @@ impl Table {
     pub fn count_on(&self, m: u64) -> u64 {
         let row = self.row_under(self.root, self.n, &self.rows());
         row.get(m as usize).copied().unwrap_or(0)
+    }
+
+    /// In how many settings the permitted ones of the 2^height settings below an edge differ from a
+    /// setup: bit d is whether one of them differs in exactly d. Each setting of a gap does or does
+    /// not.
+    fn distances_under(&self, edge: Edge, height: u64, distances: &[[u64; 2]]) -> u64 {
+        let own = distances[edge.node as usize][usize::from(edge.flag)];
+        let gap = height - self.height(edge.node);
+        (0..gap).fold(own, |set, _| set | (set << 1))
+    }
+
+    /// For each node this set under a plain edge to it, and that under a flagged one.
+    fn distances(&self, setup: u64) -> Vec<[u64; 2]> {
+        let mut distances = vec![[1, 0]; self.node_count as usize + 1];
+        for k in self.upward() {
+            let below = self.height(k) - 1;
+            let bit = (setup >> below) & 1;
+            distances[k as usize] = [false, true].map(|flag| {
+                let node = Edge { node: k, flag };
+                let [kept, turned] = [bit, 1 - bit].map(|bit| {
+                    let edge = self.follow(node, bit << below, below);
+                    self.distances_under(edge, below, &distances)
+                });
+                kept | (turned << 1)
+            });
+        }
+        distances
+    }
+
+    /// The smallest of the permitted setups that differ from this one in the fewest settings, if any
+    /// is permitted. It is found setting by setting, off if one that begins so differs in no more.
+    pub fn closest(&self, setup: u64) -> Option<u64> {
+        let distances = self.distances(setup);
+        // As before, of the 2^height setups from `first` on, and in all their settings.
+        let in_block = |first: u64, height: u64| {
+            let edge = self.follow(self.root, first, height);
+            let above = distance(first >> height, setup >> height);
+            self.distances_under(edge, height, &distances) << above
+        };
+        let all = in_block(0, self.n);
+        // The lowest bit alone.
+        let fewest = all & all.wrapping_neg();
+        let next = |found, height| match in_block(found, height) & fewest {
+            0 => found + (1 << height),
+            _ => found,
+        };
+        (fewest > 0).then(|| (0..self.n).rev().fold(0, next))
     }
 
     /// How many of the 2^height setups from `first` on are permitted. `first` is a multiple of

@@ -1,5 +1,5 @@
-//! Accepted tables, as rows of words: from a truth table, from states, at random level by level, and
-//! without records.
+//! Accepted tables, as rows of words: from a truth table, from states, from a list of setups, at random
+//! level by level, and without records.
 
 use std::collections::{BTreeMap, BTreeSet, HashMap, HashSet};
 use std::ops::Range;
@@ -148,6 +148,35 @@ pub fn with_exactly(n: u64, j: u64) -> Vec<u64> {
     let j = j as usize;
     let next = |state: usize, on| Some(state + usize::from(on)).filter(|&state| state <= j);
     from_states(n, j + 1, next, |state| state == j)
+}
+
+/// The table of the multiples of m among the setups of n settings: the state is the remainder.
+pub fn multiples(n: u64, m: u64) -> Vec<u64> {
+    let m = m as usize;
+    let next = |state, on| Some((2 * state + usize::from(on)) % m);
+    from_states(n, m, next, |state| state == 0)
+}
+
+/// The table of these setups of n settings alone.
+pub fn of_setups(n: u64, setups: impl IntoIterator<Item = u64>) -> Vec<u64> {
+    let setups = BTreeSet::from_iter(setups);
+    let mut diagram = Diagram::default();
+    let root = node_of_setups(&mut diagram, n, &Vec::from_iter(setups));
+    diagram.write(n, root)
+}
+
+/// The node of setups that ascend and are the same above the given height.
+fn node_of_setups(diagram: &mut Diagram, height: u64, setups: &[u64]) -> u64 {
+    if setups.is_empty() {
+        return NEVER;
+    }
+    if height == 0 {
+        return ALWAYS;
+    }
+    let is_off = |setup: &u64| (setup >> (height - 1)) & 1 == 0;
+    let (off, on) = setups.split_at(setups.partition_point(is_off));
+    let [high, low] = [on, off].map(|setups| node_of_setups(diagram, height - 1, setups));
+    diagram.number(height, high, low)
 }
 
 /// How many records of which height, from the lowest height up.
@@ -376,6 +405,13 @@ pub fn wide(rng: &mut Rng, n: u64, node_count: usize, widest: usize) -> Vec<u64>
     let words = from_plan(rng, n, &wide_plan(n, node_count, widest), true);
     assert_eq!(words.len(), node_count + 1);
     words
+}
+
+/// The table of all other setups: the root edge's flag turned over.
+pub fn turned_over(words: &[u64]) -> Vec<u64> {
+    let mut turned = words.to_vec();
+    turned[0] ^= 1;
+    turned
 }
 
 /// The same diagram with settings that change nothing above all others.

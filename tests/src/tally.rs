@@ -4,6 +4,7 @@ use std::collections::{BTreeMap, BTreeSet};
 
 use crate::call::{Answer, Call, Refusal};
 use crate::combination::Operation;
+use crate::distance::distance;
 use crate::pascal;
 use crate::sheets::Length;
 
@@ -13,7 +14,7 @@ const SHARED: [u64; 10] = [2, 1, 3, 10, 4, 6, 5, 7, 8, 9];
 /// Those of a loose table.
 const OF_LOOSE: [u64; 6] = [2, 1, 3, 10, 4, 6];
 const RECORD_RULES: [u64; 5] = [4, 6, 5, 7, 8];
-const LAST_REFUSAL: u64 = 20;
+const LAST_REFUSAL: u64 = 21;
 
 /// An operation with the refusals of its own, which come last.
 pub type Listed = (&'static str, &'static [u64]);
@@ -21,12 +22,13 @@ pub type Listed = (&'static str, &'static [u64]);
 /// The one on loose tables.
 pub const MAKE_PROPER: Listed = ("make proper", &[11]);
 
-pub const ONE_TABLE: [Listed; 12] = [
+pub const ONE_TABLE: [Listed; 13] = [
     ("check", &[]),
     ("count", &[]),
     ("count on", &[]),
     ("test", &[12]),
     ("ruled out", &[12]),
+    ("closest", &[12, 21]),
     ("rank", &[12, 13]),
     ("unrank", &[14]),
     ("unrank list", &[18, 17, 14]),
@@ -62,6 +64,7 @@ pub fn name_of(call: Call) -> &'static str {
         Call::CountOn { .. } => "count on",
         Call::Test { .. } => "test",
         Call::RuledOut { .. } => "ruled out",
+        Call::Closest { .. } => "closest",
         Call::Rank { .. } => "rank",
         Call::Unrank { .. } => "unrank",
         Call::UnrankList { .. } => "unrank list",
@@ -101,11 +104,15 @@ pub fn is_listed_answer(call: Call, answer: Answer) -> bool {
             };
             is_listed(name_of(call), number) && places.contains(&place) && more == [0, 0]
         }
-        None if matches!(call, Call::RuledOut { .. }) => match answer.words {
-            [kind @ 0..=2, p, setup] => (1..=63).contains(&p) == (kind == 2) && setup < 1 << 63,
-            _ => false,
+        None => match (call, answer.words) {
+            (Call::RuledOut { .. }, [kind, p, setup]) => {
+                kind <= 2 && (1..=63).contains(&p) == (kind == 2) && setup < 1 << 63
+            }
+            (Call::Closest { setup }, [closest, fewest, last]) => {
+                closest < 1 << 63 && fewest == distance(closest, setup) && last == 0
+            }
+            _ => more == [0, 0] && is_listed_value(call, value, items),
         },
-        None => more == [0, 0] && is_listed_value(call, value, items),
     }
 }
 
@@ -119,7 +126,7 @@ fn is_listed_value(call: Call, value: u64, items: u64) -> bool {
         Call::PartWrite { .. } | Call::MakeProper => is_table_length(value),
         Call::Rank { .. } | Call::Unrank { .. } => value < 1 << 63,
         Call::Count | Call::SpanStart { .. } | Call::SpanSize { .. } => value <= 1 << 63,
-        Call::RuledOut { .. } => unreachable!("answered in three words"),
+        Call::RuledOut { .. } | Call::Closest { .. } => unreachable!("answered in three words"),
     }
 }
 
@@ -202,13 +209,15 @@ fn lengths_to_meet((table, number): Cause, sheet: Sheet) -> &'static [Length] {
     }
 }
 
-/// Whether two refusals of an operation can hold together. A setup of 2^n or more is neither
-/// permitted nor unpermitted; with a fault of 4 or 6 it is not settled which setups are permitted,
-/// and of a loose table not with one of 3; where there is no part or no result, or no table of it,
-/// nothing more is said of it.
+/// Whether two refusals of an operation can hold together, the first one of them returned. A setup of
+/// 2^n or more is neither permitted nor unpermitted; with a fault of 4 or 6 it is not settled which
+/// setups are permitted, and of a loose table not with one of 3; if all records pass, and the root edge
+/// names the last of them, something is permitted; where there is no part or no result, or no table of
+/// it, nothing more is said of it.
 fn compatible(name: &str, (_, first): Cause, (_, other): Cause) -> bool {
     match (first, other) {
-        (12, 13) | (4 | 6, 13 | 14 | 20 | 16 | 11) | (15 | 19, 16 | 11) | (16, 11) => false,
+        (12, 13) | (9, 21) | (15 | 19, 16 | 11) | (16, 11) => false,
+        (4 | 6, 13 | 14 | 20 | 21 | 16 | 11) => false,
         (3, 11) => name != MAKE_PROPER.0,
         _ => true,
     }

@@ -139,10 +139,8 @@ fn itself(comparison: &mut Comparison) {
 
 fn opposite(comparison: &mut Comparison) {
     for _ in 0..500 {
-        let table = bytes_of(&tables::of_any_size(&mut comparison.rng));
-        let mut other = table.clone();
-        // The root edge's flag turned over.
-        other[7] ^= 1;
+        let words = tables::of_any_size(&mut comparison.rng);
+        let [table, other] = [&words, &tables::turned_over(&words)].map(|words| bytes_of(words));
         for reading in &Reading::all(&table, Some(&other)) {
             let outcome = comparison.combine_served(reading);
             let result = match reading.combination.operation {

@@ -26,6 +26,7 @@ fn library_agrees_with_the_paper() {
         ("several aimed faults", several_faults),
         ("several faults at one record", faulty_record),
         ("rules 5 and 6 broken at one record", edge_before_order),
+        ("nothing permitted, and another fault", none_permitted),
         ("turned bits", turned_bits),
         ("small random fields", small_fields),
         ("random words and bytes", random_bytes),
@@ -141,6 +142,8 @@ fn every_sheet(comparison: &mut Comparison) {
             Call::Test { setup: 1 << n },
             Call::RuledOut { setup },
             Call::RuledOut { setup: 1 << n },
+            Call::Closest { setup },
+            Call::Closest { setup: 1 << n },
             Call::Rank { setup },
             Call::Rank { setup: 1 << n },
             Call::Unrank { rank },
@@ -249,6 +252,27 @@ fn edge_before_order(comparison: &mut Comparison) {
     }
 }
 
+/// Refusal 21 beside the others that leave it settled that nothing is permitted.
+fn none_permitted(comparison: &mut Comparison) {
+    for n in 2..=63 {
+        let empty = bytes_of(&tables::constant(n, false));
+        for (table, number) in [
+            ([&empty[..], &[0]].concat(), 1),
+            (bytes_of(&[word(n, 1, 1), word(1, 0, 1)]), 3),
+            // The last record has equal edges.
+            (bytes_of(&[word(n, 2, 5), word(2, 0, 1), word(1, 0, 0)]), 5),
+            (bytes_of(&[word(n, 1, 2), word(1, 1, 1)]), 7),
+            (bytes_of(&[word(n, 1, 3), word(1, 0, 0)]), 8),
+            (empty, 21),
+        ] {
+            let setup = comparison.rng.below(1 << n);
+            let answer = comparison.compare_served(Call::Closest { setup }, &table);
+            assert_eq!(answer.status, number);
+            comparison.compare_all(&table);
+        }
+    }
+}
+
 fn turned_bits(comparison: &mut Comparison) {
     for _ in 0..1500 {
         let mut words = tables::of_any_size(&mut comparison.rng);
@@ -319,6 +343,11 @@ fn wide(comparison: &mut Comparison) {
     }
     for call in [Call::MakeProper, Call::CountOn { m: 0 }] {
         comparison.compare_lengths(call, &bytes_of(&words), 0, 0);
+    }
+    // With root edge 1 nothing is permitted.
+    let none = [&[word(40, 65_536, 1)], &words[1..]].concat();
+    for setup in [0, 1 << 40] {
+        comparison.compare_lengths(Call::Closest { setup }, &bytes_of(&none), 0, 0);
     }
 }
 

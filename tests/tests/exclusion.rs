@@ -24,10 +24,6 @@ fn exclusions_agree_with_the_paper() {
     assert!(tally.answered("ruled out", 12) >= 500);
 }
 
-fn found(words: [u64; 3]) -> Answer {
-    Answer { status: 0, words }
-}
-
 /// The answer of the library, compared with the paper.
 fn ask(comparison: &mut Comparison, table: &[u8], setup: u64) -> Answer {
     comparison.compare_served(Call::RuledOut { setup }, table)
@@ -39,9 +35,9 @@ fn tried(function: &TruthTable, setup: usize) -> Answer {
     let agrees = |other: usize, p: u32| other >> (n - p) == setup >> (n - p);
     let beginning = |p: u32| (0..function.len()).find(|&x| function[x] && agrees(x, p));
     match (0..=n).find(|&p| beginning(p).is_none()) {
-        None => found([0, 0, 0]),
-        Some(0) => found([1, 0, 0]),
-        Some(p) => found([2, u64::from(p), beginning(p - 1).unwrap() as u64]),
+        None => Answer::found([0, 0, 0]),
+        Some(0) => Answer::found([1, 0, 0]),
+        Some(p) => Answer::found([2, u64::from(p), beginning(p - 1).unwrap() as u64]),
     }
 }
 
@@ -71,14 +67,6 @@ fn random_functions(comparison: &mut Comparison) {
     }
 }
 
-/// The table that permits this setup alone: state i is that the first i settings are its own.
-fn only(n: u64, setup: u64) -> Vec<u8> {
-    let count = n as usize;
-    let bit = |i: usize| (setup >> (count - 1 - i)) & 1 == 1;
-    let next = |i: usize, on: bool| (i < count && on == bit(i)).then_some(i + 1);
-    bytes_of(&tables::from_states(n, count + 1, next, |i| i == count))
-}
-
 /// A setup that has the first p - 1 settings of this one, another at setting p, and any behind it.
 fn leaving_at(rng: &mut Rng, n: u64, setup: u64, p: u64) -> u64 {
     let weight = 1 << (n - p);
@@ -90,11 +78,14 @@ fn every_setting(comparison: &mut Comparison) {
     for n in 1..=63 {
         for _ in 0..4 {
             let permitted = comparison.rng.below(1 << n);
-            let table = only(n, permitted);
-            assert_eq!(ask(comparison, &table, permitted), found([0, 0, 0]));
+            let table = bytes_of(&tables::of_setups(n, [permitted]));
+            assert_eq!(ask(comparison, &table, permitted), Answer::found([0, 0, 0]));
             for p in 1..=n {
                 let setup = leaving_at(&mut comparison.rng, n, permitted, p);
-                assert_eq!(ask(comparison, &table, setup), found([2, p, permitted]));
+                assert_eq!(
+                    ask(comparison, &table, setup),
+                    Answer::found([2, p, permitted])
+                );
             }
         }
     }
@@ -105,13 +96,14 @@ fn all_but_one(comparison: &mut Comparison) {
     for n in 1..=63 {
         for _ in 0..4 {
             let setup = comparison.rng.below(1 << n);
-            let mut table = only(n, setup);
-            // The root edge's flag turned over.
-            table[7] ^= 1;
-            assert_eq!(ask(comparison, &table, setup), found([2, n, setup ^ 1]));
+            let table = bytes_of(&tables::turned_over(&tables::of_setups(n, [setup])));
+            assert_eq!(
+                ask(comparison, &table, setup),
+                Answer::found([2, n, setup ^ 1])
+            );
             let other = comparison.rng.below(1 << n);
             if other != setup {
-                assert_eq!(ask(comparison, &table, other), found([0, 0, 0]));
+                assert_eq!(ask(comparison, &table, other), Answer::found([0, 0, 0]));
             }
         }
     }
@@ -124,7 +116,7 @@ fn extreme_counts(comparison: &mut Comparison) {
             for setup in [0, (1 << n) - 1, comparison.rng.below(1 << n)] {
                 let answer = ask(comparison, &table, setup);
                 let count = comparison.compare_served(Call::Count, &table).value();
-                assert_eq!(answer == found([1, 0, 0]), count == 0);
+                assert_eq!(answer == Answer::found([1, 0, 0]), count == 0);
             }
         }
     }
@@ -138,13 +130,10 @@ fn ask_near(comparison: &mut Comparison, words: &[u64], rounds: usize) {
     for _ in 0..rounds {
         let any = comparison.rng.below(1 << n);
         ask(comparison, &table, any);
-        if count == 0 {
+        let Some(permitted) = comparison.any_permitted(&table, count) else {
             continue;
-        }
-        let rank = comparison.rng.below(count);
-        let unranked = comparison.compare_served(Call::Unrank { rank }, &table);
-        let permitted = unranked.value();
-        assert_eq!(ask(comparison, &table, permitted), found([0, 0, 0]));
+        };
+        assert_eq!(ask(comparison, &table, permitted), Answer::found([0, 0, 0]));
         if n > 0 {
             let p = comparison.rng.between(1, n);
             let setup = leaving_at(&mut comparison.rng, n, permitted, p);

@@ -142,9 +142,7 @@ fn random_numbers(comparison: &mut Comparison) {
 
 /// A table and the one that permits the other setups.
 fn with_opposite(words: &[u64]) -> [Vec<u8>; 2] {
-    let mut opposite = words.to_vec();
-    opposite[0] ^= 1;
-    [bytes_of(words), bytes_of(&opposite)]
+    [bytes_of(words), bytes_of(&tables::turned_over(words))]
 }
 
 fn great_numbers(comparison: &mut Comparison) {

@@ -135,8 +135,7 @@ fn exactly(comparison: &mut Comparison) {
 /// setting that changes nothing, above or below all others, they follow the triangle's rule.
 fn compare_kin(comparison: &mut Comparison, words: &[u64]) {
     let counts = weigh(comparison, words);
-    let mut turned = words.to_vec();
-    turned[0] ^= 1;
+    let turned = tables::turned_over(words);
     assert_eq!(weigh(comparison, &turned), pascal::rest(&counts));
     let (n, ..) = fields(words[0]);
     let more = comparison.rng.below(64 - n);
@@ -169,13 +168,7 @@ fn every_sheet(comparison: &mut Comparison) {
         let others = [table.len(), 63 * table.len(), needed - 512];
         for len in [&sheets::border_lengths(needed)[..], &others].concat() {
             let m = comparison.rng.below(n + 2);
-            let sheet = sheets::filling(&mut comparison.rng, len);
-            let outcome = comparison.compare(Call::CountOn { m }, &table, &sheet, &[]);
-            let number = outcome.answer.status;
-            assert_eq!(number == 10, len < needed);
-            let blank = if [0, 9].contains(&number) { needed } else { 0 };
-            assert!(outcome.sheet[..blank].iter().all(|&byte| byte == 0));
-            assert!(outcome.sheet[blank..] == sheet[blank..]);
+            comparison.compare_sheet(Call::CountOn { m }, &table, len, needed);
         }
     }
 }

@@ -4,7 +4,7 @@ use mathlib.Core.Path.{_≡_}
 use mathlib.Core.Bool.{Bool}
 use borrow.Author.Tests.{le-leb, lt-leb}
 use Rattle.diagram.specs.Answer.{value, refusal}
-use Rattle.counting.proofs.Places.{one-shl}
+use Rattle.diagram.proofs.Bits.{one-shl}
 use Rattle.checking.specs.Operations.{testSetup}
 
 module _ (n x : ℕ) (P : ℕ → Bool) (few : n ≤ 63) where

@@ -1,21 +1,14 @@
--- What places hold, and shifts of 64 bits, in the terms of the code. Assumes nothing.
-use Prim.Native.Nat.{ℕ, _*_, _%_, _^_, _≤_, _<_}
+-- What places hold. Assumes nothing.
+use Prim.Native.Nat.{ℕ, _^_, _≤_, _<_}
 use mathlib.Core.Path.{_≡_, refl}
 use native.Mathlib.Omega.{arith}
-use native.Mathlib.Nat.{one-mul, mod-eq-of-lt, lt-of-le-of-lt}
-use lib.Pow.{pow-pos, pow-lt}
+use native.Mathlib.Nat.{lt-of-le-of-lt}
+use lib.Pow.{pow-lt}
 use Rattle.diagram.specs.Format.{Words, height}
 use Rattle.diagram.specs.Meaning.{plain, holds}
 use Rattle.diagram.specs.Count.{indicator, countBelow, place}
 use Rattle.diagram.specs.Reading.{share}
 use Rattle.diagram.proofs.CountLaws.{count-le}
-
--- 2 ^ g as a shift makes it
-pub one-shl : (g : ℕ) → g ≤ 63 → 1 * 2 ^ g % 18446744073709551616 ≡ 2 ^ g
-one-shl g l = rw one-mul (mod-eq-of-lt (pow-lt {i = g} {j = 64} (omega arith)))
-
-pub shl-pos : (g : ℕ) → g ≤ 63 → 0 < 1 * 2 ^ g % 18446744073709551616
-shl-pos g l = rw (one-shl g l) (pow-pos g)
 
 -- a node's share is at most the setups counted
 pub share-le : (w : Words) (k : ℕ) → share w k ≤ 2 ^ 63

@@ -1,12 +1,27 @@
 -- Laws of a number's bits. Assumes nothing.
-use Prim.Native.Nat.{ℕ, suc, _+_, _-_, _/_, _%_, _^_, _≤_, _<_}
-use mathlib.Core.Path.{_≡_, sym, ap, subst, _∙_}
+use Prim.Native.Nat.{ℕ, suc, _+_, _-_, _*_, _/_, _%_, _^_, _≤_, _<_}
+use mathlib.Core.Path.{_≡_, refl, sym, ap, subst, _∙_}
 use mathlib.Core.Bool.{Bool, true, false}
-use native.Mathlib.Nat.{mod-mod, mod-lt, mod-eq-of-lt, div-eq-of-lt, add-comm, add-div-right, add-mod-right, two-pow-succ}
+use native.Mathlib.Nat.{mod-mod, mod-lt, mod-eq-of-lt, div-eq-of-lt, add-comm, add-div-right, add-mod-right, two-pow-succ, one-mul}
 use native.Mathlib.Omega.{arith}
 use lib.Dec.{eqb}
-use lib.Pow.{pow-pos, field, mod-mod-pow, ones-split, high, ones-lt}
+use mir.Val.{boolByte}
+use lib.Pow.{pow-pos, pow-lt, field, mod-mod-pow, ones-split, high, ones-lt}
 use Rattle.diagram.specs.Meaning.{bit}
+use Rattle.diagram.specs.Count.{indicator}
+
+-- 2 ^ g as a shift makes it
+pub one-shl : (g : ℕ) → g ≤ 63 → 1 * 2 ^ g % 18446744073709551616 ≡ 2 ^ g
+one-shl g l = rw one-mul (mod-eq-of-lt (pow-lt {i = g} {j = 64} (omega arith)))
+
+pub shl-pos : (g : ℕ) → g ≤ 63 → 0 < 1 * 2 ^ g % 18446744073709551616
+shl-pos g l = rw (one-shl g l) (pow-pos g)
+
+-- a test as the number 1 or 0
+pub bool-byte : (b : Bool) → boolByte b ≡ indicator b
+unfolding indicator
+bool-byte true = refl
+bool-byte false = refl
 
 -- the bit of weight 2 ^ m, m < H, is one of the low H bits
 digit-mod : (m H x : ℕ) → m < H → x % 2 ^ H / 2 ^ m % 2 ≡ x / 2 ^ m % 2

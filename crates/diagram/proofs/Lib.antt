@@ -2,6 +2,7 @@
 pub mod CountLaws
 pub mod Members
 pub mod Bits
+pub mod Digits
 pub mod Select
 pub mod Paths
 pub mod Agree

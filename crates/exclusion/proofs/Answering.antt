@@ -16,7 +16,8 @@ use Rattle.diagram.specs.Answer.{value, refusal, andThen}
 use Rattle.checking.proofs.Answering.{too-large, in-range, tested}
 use Rattle.exclusion.specs.Finding.{Finding, isPermitted, ruledOut, finding}
 use Rattle.exclusion.specs.Operations.{findSetup}
-use Rattle.exclusion.specs.Inner.{LiesIn, Follows, turnedAt}
+use Rattle.walking.specs.Inner.{LiesIn}
+use Rattle.exclusion.specs.Inner.{Follows, turnedAt}
 use Rattle.exclusion.proofs.Found.{found-permitted, found-nothing, given-fits, found-ruled}
 
 pub out-of-range : (n x : ℕ) (P : ℕ → Bool) → n ≤ 63 → 1 * 2 ^ n % 18446744073709551616 ≤ x → refusal 12 0 ≡ findSetup x n P

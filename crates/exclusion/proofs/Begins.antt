@@ -10,8 +10,8 @@ use Rattle.words.proofs.Cases.{less, same, more, tri, both-true}
 use Rattle.diagram.specs.Count.{smallest, someBelow}
 use Rattle.diagram.proofs.AnswerLaws.{some-at, some-found}
 use Rattle.diagram.proofs.Select.{Least, smallest-is, smallest-none}
+use Rattle.diagram.proofs.Digits.{above}
 use Rattle.exclusion.specs.Finding.{agree, beginsAs, noneBegins, firstRuling, given, isPermitted, ruledOut, findingBy, finding}
-use Rattle.exclusion.proofs.Digits.{above}
 
 module _ (P : ℕ → Bool) (n x : ℕ) where
   -- y has the first p settings of x

@@ -1,68 +1,42 @@
--- Numbers that agree in their first digits, and the one that turns over the last of these. Assumes nothing.
+-- The number that turns over the last of some first digits. Assumes nothing.
 use Prim.Native.Nat.{ℕ, _+_, _-_, _*_, _/_, _%_, _^_, _≤_, _<_}
 use mathlib.Core.Path.{_≡_, refl, sym, ap, _∙_}
 use mathlib.Core.Bool.{Bool, true, false, not, cond}
-use native.Mathlib.Nat.{mul-assoc, div-eq-of-lt, lt-div-mul-add, div-eq-of-lt-le}
+use native.Mathlib.Nat.{mul-assoc, div-eq-of-lt-le}
 use native.Mathlib.Omega.{arith}
-use lib.Pow.{pow-pos, pow-add, shl-shr, shr-shr}
+use lib.Pow.{pow-add, shl-shr}
 use lib.Dec.{eqb}
 use borrow.Author.Tests.{eqb-true, eqb-false, eq-eqb, ne-eqb}
 use Rattle.diagram.specs.Meaning.{bit}
+use Rattle.diagram.proofs.Digits.{half}
 use Rattle.exclusion.specs.Inner.{turnedAt}
 
--- numbers that agree but for the last h digits agree but for more
-pub above : (h H x y : ℕ) → h ≤ H → y / 2 ^ h ≡ x / 2 ^ h → y / 2 ^ H ≡ x / 2 ^ H
-above h H x y l q = sym (split y) ∙ ap (λ (z : ℕ). z / 2 ^ (H - h)) q ∙ split x
-  where
-    split : (z : ℕ) → z / 2 ^ h / 2 ^ (H - h) ≡ z / 2 ^ H
-    split z = let e : h + (H - h) ≡ H = omega arith in shr-shr z h (H - h) ∙ ap (λ (g : ℕ). z / 2 ^ g) e
+module _ (h : ℕ) (some : 0 < h) (x : ℕ) where
+  abbrev digits : ℕ
+  digits = x / 2 ^ (h - 1)
 
--- ... and are numbers of n digits together
-pub fits : (h n x y : ℕ) → h ≤ n → x < 2 ^ n → y / 2 ^ h ≡ x / 2 ^ h → y < 2 ^ n
-fits h n x y l i q =
-    let none : y / 2 ^ n * 2 ^ n ≡ 0 * 2 ^ n = ap (λ (z : ℕ). z * 2 ^ n) (above h n x y l q ∙ div-eq-of-lt i) in
-    omega (arith, none, lt-div-mul-add {a = y} {b = 2 ^ n} (pow-pos n))
+  -- the last digit turned over
+  turned-digits : turnedAt h x / 2 ^ (h - 1) ≡ cond (bit h x) (digits - 1) (digits + 1)
+  unfolding turnedAt
+  turned-digits = shl-shr (cond (bit h x) (digits - 1) (digits + 1)) (h - 1)
 
-module _ (h : ℕ) (some : 0 < h) where
-  -- one digit less
-  half : (x : ℕ) → x / 2 ^ h ≡ x / 2 ^ (h - 1) / 2
-  half x = let e : h - 1 + 1 ≡ h = omega arith in sym (shr-shr x (h - 1) 1 ∙ ap (λ (g : ℕ). x / 2 ^ g) e)
+  -- nothing stands behind it
+  pub turned-whole : turnedAt h x ≡ turnedAt h x / 2 ^ (h - 1) * 2 ^ (h - 1)
+  unfolding turnedAt
+  turned-whole = ap (λ (z : ℕ). z * 2 ^ (h - 1)) (sym turned-digits)
 
-  -- one digit more, where that is the same
-  pub same-digit : (x y : ℕ) → y / 2 ^ h ≡ x / 2 ^ h → bit h y ≡ bit h x → y / 2 ^ (h - 1) ≡ x / 2 ^ (h - 1)
+  turns : (d : ℕ) → (b : Bool) → eqb (d % 2) 1 ≡ b → (eqb (cond b (d - 1) (d + 1) % 2) 1 ≡ not b) × (cond b (d - 1) (d + 1) / 2 ≡ d / 2)
+  turns d true p = let o = eqb-true (d % 2) 1 p in (ne-eqb ((d - 1) % 2) 1 (λ e. omega arith), omega arith)
+  turns d false p = let o = eqb-false (d % 2) 1 p in (eq-eqb ((d + 1) % 2) 1 (omega arith), omega arith)
+
+  pub turned-bit : bit h (turnedAt h x) ≡ not (bit h x)
   unfolding bit
-  same-digit x y q b = go (y / 2 ^ (h - 1)) (x / 2 ^ (h - 1)) (sym (half y) ∙ q ∙ half x) (eqb (x / 2 ^ (h - 1) % 2) 1) refl b
-    where
-      go : (c d : ℕ) → c / 2 ≡ d / 2 → (a : Bool) → eqb (d % 2) 1 ≡ a → eqb (c % 2) 1 ≡ eqb (d % 2) 1 → c ≡ d
-      go c d e true p r = let s = eqb-true (c % 2) 1 (r ∙ p) in let t = eqb-true (d % 2) 1 p in omega arith
-      go c d e false p r = let s = eqb-false (c % 2) 1 (r ∙ p) in let t = eqb-false (d % 2) 1 p in omega arith
+  turned-bit = ap (λ (d : ℕ). eqb (d % 2) 1) turned-digits ∙ turns digits (bit h x) refl .0
 
-  module _ (x : ℕ) where
-    abbrev digits : ℕ
-    digits = x / 2 ^ (h - 1)
-
-    -- the last digit turned over
-    turned-digits : turnedAt h x / 2 ^ (h - 1) ≡ cond (bit h x) (digits - 1) (digits + 1)
-    unfolding turnedAt
-    turned-digits = shl-shr (cond (bit h x) (digits - 1) (digits + 1)) (h - 1)
-
-    -- nothing stands behind it
-    pub turned-whole : turnedAt h x ≡ turnedAt h x / 2 ^ (h - 1) * 2 ^ (h - 1)
-    unfolding turnedAt
-    turned-whole = ap (λ (z : ℕ). z * 2 ^ (h - 1)) (sym turned-digits)
-
-    turns : (d : ℕ) → (b : Bool) → eqb (d % 2) 1 ≡ b → (eqb (cond b (d - 1) (d + 1) % 2) 1 ≡ not b) × (cond b (d - 1) (d + 1) / 2 ≡ d / 2)
-    turns d true p = let o = eqb-true (d % 2) 1 p in (ne-eqb ((d - 1) % 2) 1 (λ e. omega arith), omega arith)
-    turns d false p = let o = eqb-false (d % 2) 1 p in (eq-eqb ((d + 1) % 2) 1 (omega arith), omega arith)
-
-    pub turned-bit : bit h (turnedAt h x) ≡ not (bit h x)
-    unfolding bit
-    turned-bit = ap (λ (d : ℕ). eqb (d % 2) 1) turned-digits ∙ turns digits (bit h x) refl .0
-
-    -- and what stands before it is the same
-    pub turned-above : turnedAt h x / 2 ^ h ≡ x / 2 ^ h
-    unfolding bit
-    turned-above = half (turnedAt h x) ∙ ap (λ (d : ℕ). d / 2) turned-digits ∙ turns digits (bit h x) refl .1 ∙ sym (half x)
+  -- and what stands before it is the same
+  pub turned-above : turnedAt h x / 2 ^ h ≡ x / 2 ^ h
+  unfolding bit
+  turned-above = half h some (turnedAt h x) ∙ ap (λ (d : ℕ). d / 2) turned-digits ∙ turns digits (bit h x) refl .1 ∙ sym (half h some x)
 
 -- numbers whose last h digits are 0
 abbrev pub Whole : ℕ → ℕ → Type 0

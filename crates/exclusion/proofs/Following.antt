@@ -1,16 +1,26 @@
 -- A setup's way, from the first edge on and by one node more, in the terms of the code. Assumes nothing.
-use Prim.Native.Nat.{ℕ, _+_, _-_, _/_, _^_, _≤_}
+use Prim.Native.Nat.{ℕ, _+_, _-_, _/_, _%_, _^_, _≤_}
 use mathlib.Core.Path.{_≡_, refl, sym, ap, _∙_}
 use mathlib.Core.Logic.{_≢_}
 use mathlib.Core.Bool.{Bool, true, false, not, cond}
 use mathlib.Core.List.{List}
 use native.Mathlib.Omega.{arith}
+use lib.Dec.{eqb}
 use Rattle.words.specs.Words.{wordAt}
 use Rattle.diagram.specs.Format.{height}
-use Rattle.diagram.specs.Meaning.{bit}
+use Rattle.diagram.specs.Meaning.{bit, under}
 use Rattle.diagram.proofs.Paths.{height-le-settings}
-use Rattle.exclusion.specs.Inner.{Lies, Along, Forks, Follows, turnedAt}
-use Rattle.exclusion.proofs.Digits.{above, turned-bit, turned-above}
+use Rattle.diagram.proofs.Digits.{above}
+use Rattle.walking.specs.Inner.{Lies, Forks}
+use Rattle.exclusion.specs.Inner.{Along, Follows, turnedAt}
+use Rattle.exclusion.proofs.Digits.{turned-bit, turned-above}
+
+-- a way along x that has reached edge e goes on by its two sides, along whatever begins as x does
+pub goes-on : {t : List ℕ} {n e h high low : ℕ} → Forks t n e h high low → (from x g : ℕ) → Along (wordAt t) from x g e → h ≤ g → (y : ℕ) → y / 2 ^ g ≡ x / 2 ^ g → (b : Bool) → bit h y ≡ b
+    → Along (wordAt t) from y (h - 1) (cond b high low)
+unfolding bit
+goes-on {t} {n} {e} {h} {high} {low} S from x g A l y q b p z r =
+    A z (above (h - 1) g y z (omega arith) r ∙ q) ∙ S .own z ∙ ap (λ (o : Bool). under (wordAt t) (cond o high low) z) (ap (λ (d : ℕ). eqb (d % 2) 1) r ∙ p)
 
 -- a way that has reached an edge of the diagram, below the last node passed
 pub record Reaches (t : List ℕ) (n from x e h other : ℕ) : Type 0 where
@@ -50,7 +60,7 @@ reaches-next t n from x e h₀ other₀ h high low R S on on-is next other next-
     falls = omega (arith, S .height-is, R .below)
 
     goes : (y : ℕ) → y / 2 ^ (h₀ - 1) ≡ x / 2 ^ (h₀ - 1) → (b : Bool) → bit h y ≡ b → Along (wordAt t) from y (h - 1) (cond b high low)
-    goes = S .goes-on from x (h₀ - 1) (R .follows .along) falls
+    goes = goes-on S from x (h₀ - 1) (R .follows .along) falls
 
     either : (b : Bool) → cond (not b) high low ≢ cond b high low
     either true q = S .differ (sym q)

@@ -14,9 +14,10 @@ use Rattle.diagram.specs.Count.{smallest}
 use Rattle.diagram.proofs.Paths.{under-always, under-never}
 use Rattle.diagram.proofs.Local.{under-mod}
 use Rattle.diagram.proofs.Select.{Least, smallest-least}
+use Rattle.diagram.proofs.Digits.{above, fits, same-digit}
 use Rattle.exclusion.specs.Finding.{isPermitted, ruledOut, finding}
 use Rattle.exclusion.specs.Inner.{Passed, Follows, turnedAt}
-use Rattle.exclusion.proofs.Digits.{above, fits, same-digit, turned-bit, turned-above, turned-whole}
+use Rattle.exclusion.proofs.Digits.{turned-bit, turned-above, turned-whole}
 use Rattle.exclusion.proofs.Begins.{Same, begins-is, is-begins, finds-permitted, finds-nothing, finds-ruled}
 
 module _ (t : List ℕ) (n from x e h other : ℕ) (F : Follows t n from x e h other) (x-fits : x < 2 ^ n) where

@@ -1,7 +1,6 @@
 -- The laws of the settings that rule a setup out.
 pub mod Digits
 pub mod Turning
-pub mod Forking
 pub mod Following
 pub mod Seeking
 pub mod Begins

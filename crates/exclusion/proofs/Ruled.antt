@@ -11,8 +11,8 @@ use Rattle.diagram.specs.Meaning.{bit}
 use Rattle.diagram.specs.Count.{countBelow, smallest}
 use Rattle.diagram.proofs.CountLaws.{count-none, none-counted}
 use Rattle.diagram.proofs.Select.{Least, smallest-least, none-smallest}
+use Rattle.diagram.proofs.Digits.{same-digit}
 use Rattle.exclusion.specs.Finding.{agree, beginsAs, noneBegins, firstRuling, given, isPermitted, ruledOut, findingBy, finding, IsGiven}
-use Rattle.exclusion.proofs.Digits.{same-digit}
 use Rattle.exclusion.proofs.Begins.{Same, begins-is, is-begins, begins-some, none-begins, finds-nothing}
 
 module _ (P : ℕ → Bool) (n x : ℕ) (l : x < 2 ^ n) where

@@ -17,8 +17,11 @@ use Rattle.diagram.specs.Meaning.{bit, under}
 use Rattle.diagram.specs.Count.{smallest}
 use Rattle.diagram.proofs.Paths.{height-le-settings, under-always, under-never}
 use Rattle.diagram.proofs.Select.{smallest-is}
-use Rattle.exclusion.specs.Inner.{Lies, Along, Forks, turnedAt}
-use Rattle.exclusion.proofs.Digits.{Whole, above, fits, whole-down, whole-bit, up-to-turned, turned-whole, turned-bit, turned-above}
+use Rattle.diagram.proofs.Digits.{above, fits}
+use Rattle.walking.specs.Inner.{Lies, Forks}
+use Rattle.exclusion.specs.Inner.{Along, turnedAt}
+use Rattle.exclusion.proofs.Following.{goes-on}
+use Rattle.exclusion.proofs.Digits.{Whole, whole-down, whole-bit, up-to-turned, turned-whole, turned-bit, turned-above}
 
 -- the settings of x are chosen but for the last `left`, which are off, and edge e is reached: something is permitted from there on, and nothing is below x
 pub record Seeks (t : List ℕ) (from e x : ℕ) : Type 0 where
@@ -62,7 +65,7 @@ module _ (t : List ℕ) (from e x h high low : ℕ) (K : Seeks t from e x) (S : 
   whole = whole-down h (K .left) x falls (K .whole)
 
   goes : (y : ℕ) → y / 2 ^ K .left ≡ x / 2 ^ K .left → (b : Bool) → bit h y ≡ b → Along w from y (h - 1) (cond b high low)
-  goes = S .goes-on from x (K .left) (K .along) falls
+  goes = goes-on S from x (K .left) (K .along) falls
 
   -- with its setting off
   off : Along w from x (h - 1) low

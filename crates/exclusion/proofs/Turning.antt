@@ -5,8 +5,9 @@ use native.Mathlib.Nat.{div-le-self, mod-eq-of-lt}
 use native.Mathlib.Omega.{arith}
 use borrow.Author.Tests.{eq-eqb, ne-eqb}
 use Rattle.diagram.specs.Meaning.{bit}
+use Rattle.diagram.proofs.Digits.{fits}
 use Rattle.exclusion.specs.Inner.{turnedAt}
-use Rattle.exclusion.proofs.Digits.{fits, turned-above}
+use Rattle.exclusion.proofs.Digits.{turned-above}
 
 module _ (h x : ℕ) (some : 0 < h) (few : h ≤ 63) (small : x < 2 ^ 63) where
   -- it fits 64 bits

@@ -7,8 +7,8 @@ ghost use Rattle.words.specs.Words.{wordAt};
 ghost use Rattle.diagram.specs.Format.{height};
 ghost use Rattle.diagram.specs.Meaning.{under};
 ghost use Rattle.diagram.specs.Count.{smallest};
-ghost use Rattle.exclusion.specs.Inner.{Lies, LiesIn, ForksIn, Follows, turnedAt};
-use diagram::Cofactors;
+ghost use Rattle.walking.specs.Inner.{Lies, LiesIn};
+ghost use Rattle.exclusion.specs.Inner.{Follows, turnedAt};
 use diagram::Edge;
 use diagram::Setup;
 
@@ -17,24 +17,6 @@ pub struct Way {
     pub edge: Edge,
     pub height: u64,
     pub other: Edge,
-}
-
-// The node that an edge leads to: its height, and the edge's two sides by its setting.
-struct Fork {
-    height: u64,
-    sides: Cofactors,
-}
-
-fn fork_at(table: &[u8], e: Edge) -> Fork
-    requires { ⌜ LiesIn (now table) (e .value) × (0 < e .value / 2) ⌝ }
-    ensures { λ r. ⌜ ForksIn (now (table .entry)) (e .value) (r .height) (r .sides .high .value) (r .sides .low .value) ⌝ }
-{
-    let record = diagram::record_at(table, e.node());
-    let sides = record.cofactors(e);
-    Fork {
-        height: record.height,
-        sides,
-    }
 }
 
 // Follows setup x of n settings from edge e to the sink.
@@ -48,7 +30,7 @@ pub fn follow(table: &[u8], n: u64, e: Edge, x: Setup) -> Way
         other: Edge::NEVER,
     };
     while 0 < way.edge.node().0 {
-        let fork = fork_at(table, way.edge);
+        let fork = walking::fork_at(table, way.edge);
         let on = (x.0 >> (fork.height - 1)) % 2 == 1;
         way = Way {
             edge: fork.sides.at(on),
@@ -79,7 +61,7 @@ pub fn smallest_under(table: &[u8], e: Edge) -> Setup
     let mut edge = e;
     let mut x = Setup(0);
     while 0 < edge.node().0 {
-        let fork = fork_at(table, edge);
+        let fork = walking::fork_at(table, edge);
         let on = fork.sides.low.value == 1;
         if on {
             x = turned(x, fork.height);

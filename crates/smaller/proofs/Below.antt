@@ -12,10 +12,10 @@ use Rattle.diagram.specs.Meaning.{plain, under}
 use Rattle.diagram.specs.Count.{countBelow}
 use Rattle.diagram.specs.Reading.{opposite}
 use Rattle.diagram.proofs.CountLaws.{count-le}
+use Rattle.diagram.proofs.Bits.{one-shl, shl-pos}
 use Rattle.diagram.proofs.Inside.{within-room, within-low}
 use Rattle.diagram.proofs.Counts.{below-edge}
 use Rattle.counting.specs.Inner.{Filled, Opens}
-use Rattle.counting.proofs.Places.{one-shl, shl-pos}
 use Rattle.counting.proofs.Shares.{filled-below}
 use Rattle.smaller.specs.Inner.{IsStep}
 

@@ -7,7 +7,7 @@ use native.Mathlib.Nat.{mul-le-mul-left, div-add-mod'}
 use lib.Dec.{eqb}
 use Rattle.diagram.specs.Reading.{opposite}
 use Rattle.diagram.proofs.Edges.{opposite-set, opposite-clear}
-use Rattle.counting.proofs.Places.{one-shl}
+use Rattle.diagram.proofs.Bits.{one-shl}
 
 module _ (y g block inside e : ℕ) (few : g ≤ 63) (block-le : block ≤ 2 ^ g) (inside-le : inside ≤ y % 2 ^ g) (fits : y < 18446744073709551616) where
   whole : y / 2 ^ g * block + y % 2 ^ g ≤ y

@@ -9,12 +9,11 @@ use Rattle.diagram.specs.Format.{Words, height, elseEdge}
 use Rattle.diagram.specs.Meaning.{plain, under}
 use Rattle.diagram.specs.Count.{countBelow}
 use Rattle.diagram.specs.Reading.{IsRecord, Within}
-use Rattle.diagram.proofs.Bits.{pow-halves}
+use Rattle.diagram.proofs.Bits.{one-shl, pow-halves}
 use Rattle.diagram.proofs.Paths.{Lower}
 use Rattle.diagram.proofs.Inside.{inside-tall, high-lower, low-lower}
 use Rattle.diagram.proofs.Counts.{below-else, below-then}
 use Rattle.counting.specs.Inner.{Filled, Opens}
-use Rattle.counting.proofs.Places.{one-shl}
 use Rattle.counting.proofs.Shares.{filled-below}
 use Rattle.smaller.specs.Inner.{IsStep}
 

@@ -1,10 +1,12 @@
-// The way of a setup through the diagram.
+// The way of a setup through the diagram, and the two sides of an edge at its node's setting.
 ghost use mathlib.Core.Path.{_≡_};
 ghost use mathlib.Core.Bool.{not};
 ghost use Prim.Native.Nat.{_/_, _<_};
 ghost use Rattle.words.specs.Words.{wordAt};
 ghost use Rattle.diagram.specs.Meaning.{branch, plain, under};
 ghost use Rattle.diagram.specs.Reading.{Within};
+ghost use Rattle.walking.specs.Inner.{LiesIn, ForksIn};
+use diagram::Cofactors;
 use diagram::Edge;
 use diagram::Node;
 use diagram::Setup;
@@ -62,5 +64,24 @@ pub fn permitted_under(table: &[u8], e: Edge, x: Setup) -> bool
         permitted_flagged(table, e.node(), x)
     } else {
         permitted_plain(table, e.node(), x)
+    }
+}
+
+// The node that an edge leads to: its height, and the edge's two sides by its setting.
+pub struct Fork {
+    pub height: u64,
+    pub sides: Cofactors,
+}
+
+// ... of edge e in a reduced diagram.
+pub fn fork_at(table: &[u8], e: Edge) -> Fork
+    requires { ⌜ LiesIn (now table) (e .value) × (0 < e .value / 2) ⌝ }
+    ensures { λ r. ⌜ ForksIn (now (table .entry)) (e .value) (r .height) (r .sides .high .value) (r .sides .low .value) ⌝ }
+{
+    let record = diagram::record_at(table, e.node());
+    let sides = record.cofactors(e);
+    Fork {
+        height: record.height,
+        sides,
     }
 }

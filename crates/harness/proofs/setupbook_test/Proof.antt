@@ -1,19 +1,12 @@
 -- `harness::setupbook_test` meets its contract. Assumes nothing.
-use mathlib.Core.Path.{_≡_, refl, sym, ap, _∙_}
-use mathlib.Core.Bool.{Bool, true, false}
-use mir.Val.{boolByte}
+use mathlib.Core.Path.{sym, ap, _∙_}
 use borrow.Author.Needs.{needs}
-use Rattle.diagram.specs.Count.{indicator}
+use Rattle.diagram.proofs.Bits.{bool-byte}
 use Rattle.checking.specs.Answers.{testedAs}
 use Rattle.rules.proofs.Packing.{packed-value, packed-refusal}
 use Rattle.checking.proofs.Bounds.{testing-place}
 use Rattle.harness.proofs.setupbook_test.Statement.{statement}
 use Rattle.harness.proofs.setupbook_test.Tie as tie
-
-bool-byte : (b : Bool) → boolByte b ≡ indicator b
-unfolding indicator
-bool-byte true = refl
-bool-byte false = refl
 
 pack-refusal-requires : tie.Need-pack-refusal-requires
 pack-refusal-requires c κs = testing-place _ _ _ _ _ (sym (c .before .before .before .before .before .test .ensures .0) ∙ ap testedAs (c .before .tested2 .given .1))

@@ -1,6 +1,6 @@
 -- `smaller::across_gap` meets its contract. Assumes nothing.
 use borrow.Author.Needs.{needs}
-use Rattle.counting.proofs.Places.{shl-pos}
+use Rattle.diagram.proofs.Bits.{shl-pos}
 use Rattle.smaller.proofs.Gap.{product-fits, inside-rest, flagged-fits, plain-fits, flagged-is, plain-is}
 use Rattle.smaller.proofs.across_gap.Statement.{statement}
 use Rattle.smaller.proofs.across_gap.Tie as tie

@@ -1,10 +1,9 @@
 -- The two sides of an edge at its node's setting, in the terms of the code. Assumes nothing.
-use Prim.Native.Nat.{ℕ, _+_, _-_, _*_, _/_, _%_, _^_, _≤_, _<_}
+use Prim.Native.Nat.{ℕ, _+_, _*_, _/_, _%_, _≤_, _<_}
 use mathlib.Core.Path.{_≡_, sym, ap, _∙_}
 use mathlib.Core.Bool.{Bool, true, false, cond}
 use mathlib.Core.List.{List}
 use native.Mathlib.Omega.{arith}
-use lib.Dec.{eqb}
 use lib.ListN.{length}
 use Rattle.words.specs.Words.{wordAt}
 use Rattle.diagram.specs.Format.{Words, height}
@@ -13,8 +12,7 @@ use Rattle.diagram.specs.Ordered.{Ordered}
 use Rattle.diagram.specs.Reading.{IsRecord, turn, cofactor}
 use Rattle.diagram.proofs.Paths.{tall-node, height-le-settings}
 use Rattle.diagram.proofs.Cofactor.{goes-on, cofactor-low, cofactor-own, cofactors-differ}
-use Rattle.exclusion.specs.Inner.{Lies, Along, Forks}
-use Rattle.exclusion.proofs.Digits.{above}
+use Rattle.walking.specs.Inner.{Lies, Forks}
 
 -- edge e leads to node v
 module _ (t : List ℕ) (n e v : ℕ) (L : Lies t n e) (v-is : v ≡ e / 2) where
@@ -42,13 +40,8 @@ module _ (t : List ℕ) (n e v : ℕ) (L : Lies t n e) (v-is : v ≡ e / 2) wher
     side-low : (b : Bool) → (cond b high low / 2 ≤ e / 2) × (height w (cond b high low / 2) < h)
     side-low b = rw (side-is b) (cofactor-low w n (L .nodes) ordered e h (L .inside) (omega (arith, height-is)) tall b)
 
-    goes : (from x g : ℕ) → Along w from x g e → h ≤ g → (y : ℕ) → y / 2 ^ g ≡ x / 2 ^ g → (b : Bool) → bit h y ≡ b → Along w from y (h - 1) (cond b high low)
-    unfolding bit
-    goes from x g A l y q b p z r′ =
-        A z (above (h - 1) g y z (omega arith) r′ ∙ q)
-        ∙ cofactor-own w n (L .nodes) ordered e h (L .inside) (omega (arith, height-is)) tall z
-        ∙ ap (λ (o : Bool). under w (cofactor w h o e) z) (ap (λ (d : ℕ). eqb (d % 2) 1) r′ ∙ p)
-        ∙ ap (λ (d : ℕ). under w d z) (sym (side-is b))
+    sides : (y : ℕ) → under w e y ≡ under w (cond (bit h y) high low) y
+    sides y = cofactor-own w n (L .nodes) ordered e h (L .inside) (omega (arith, height-is)) tall y ∙ ap (λ (d : ℕ). under w d y) (sym (side-is (bit h y)))
 
     pub forks : Forks t n e h high low
     forks = record {
@@ -58,5 +51,5 @@ module _ (t : List ℕ) (n e v : ℕ) (L : Lies t n e) (v-is : v ≡ e / 2) wher
       lies = λ b. record { nodes = L .nodes; holds = L .holds; reduced = L .reduced; inside = omega (arith, side-low b, L .inside) };
       lower = λ b. side-low b .1;
       differ = λ q. cofactors-differ w n (L .nodes) (L .reduced) e h (L .inside) height-is tall (sym (side-is true) ∙ q ∙ side-is false);
-      goes-on = goes;
+      own = sides;
     }

@@ -1,9 +1,9 @@
--- `exclusion::way::fork_at` meets its contract. Assumes nothing.
+-- `walking::fork_at` meets its contract. Assumes nothing.
 use native.Mathlib.Omega.{arith}
 use borrow.Author.Needs.{needs}
-use Rattle.exclusion.proofs.Forking.{node-room, forks}
-use Rattle.exclusion.proofs.way.fork_at.Statement.{statement}
-use Rattle.exclusion.proofs.way.fork_at.Tie as tie
+use Rattle.walking.proofs.Forking.{node-room, forks}
+use Rattle.walking.proofs.fork_at.Statement.{statement}
+use Rattle.walking.proofs.fork_at.Tie as tie
 
 record-at-requires : tie.Need-record-at-requires
 record-at-requires c κs = let p = c .before .before .pre in (omega (arith, c .node .ensures, p .1), node-room _ _ _ _ (p .0 .1) (c .node .ensures))

@@ -1,0 +1,4 @@
+-- The laws of distances, and of the nearest setup.
+pub mod Settings
+pub mod Distances
+pub mod Near

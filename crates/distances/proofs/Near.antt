@@ -1,0 +1,140 @@
+-- The nearest number that passes a test, by its settings one after the other. Assumes nothing.
+use Prim.Native.Nat.{ℕ, zero, suc, _+_, _-_, _*_, _/_, _%_, _^_, _≤_, _<_}
+use mathlib.Core.Path.{_≡_, refl, sym, ap, subst, _∙_}
+use mathlib.Core.Logic.{_⊎_, inl, inr}
+use mathlib.Core.Bool.{Bool, true, false, not, xor, true≢false}
+use native.Mathlib.Nat.{mod-lt}
+use native.Mathlib.Omega.{arith}
+use lib.Pow.{pow-pos, high, low, mod-mod-pow}
+use Rattle.words.proofs.Cases.{less, same, more, tri}
+use Rattle.diagram.specs.Meaning.{bit}
+use Rattle.diagram.specs.Count.{indicator}
+use Rattle.diagram.proofs.Digits.{above}
+use Rattle.distances.specs.Distance.{distance}
+use Rattle.distances.specs.Inner.{setAt, LooksAt, Apart, Nearest, Chosen}
+use Rattle.distances.proofs.Settings.{set-ends, set-bit, set-begins, begins-set, set-same, set-own, off-before}
+use Rattle.distances.proofs.Distances.{dist-step, dist-mono, dist-self, dist-ends, dist-zero, dist-same}
+
+-- what passes is nearest to itself
+pub own-nearest : (P : ℕ → Bool) (h x : ℕ) → P x ≡ true → Nearest P h x x
+own-nearest P h x p = record {
+  begins = refl;
+  passes = p;
+  nearest = λ z q r. omega (arith, dist-self h x);
+  least = λ z q r e. omega (arith, dist-same h x z q (e ∙ dist-self h x));
+}
+
+-- the setting of height h, by whether it is on: what it costs to have it so
+abbrev pub cost : ℕ → ℕ → Bool → ℕ
+cost h x b = indicator (xor (bit h x) b)
+
+pub dist-at : (h x z : ℕ) (b : Bool) → 0 < h → bit h z ≡ b → distance h x z ≡ distance (h - 1) x z + cost h x b
+dist-at h x z b some p = dist-step h x z some ∙ ap (λ (c : Bool). distance (h - 1) x z + cost h x c) p
+
+chosen-le : (b : Bool) (c d : ℕ) → Chosen b c d → c ≤ d
+chosen-le true c d l = omega arith
+chosen-le false c d l = l
+
+chosen-lt : (b : Bool) (c d : ℕ) → Chosen b c d → b ≡ true → c < d
+chosen-lt true c d l q = l
+chosen-lt false c d l q = absurd (true≢false (sym q))
+
+either : (a b : Bool) → (a ≡ b) ⊎ (a ≡ not b)
+either true true = inl refl
+either true false = inr refl
+either false true = inr refl
+either false false = inl refl
+
+-- a test P by the setting of height h: with it as b, Q decides and y is nearest; otherwise all that passes is d settings off or more, and b is chosen before that
+module _ (P : ℕ → Bool) (h x : ℕ) (some : 0 < h) (b : Bool) (Q : ℕ → Bool) (own : (z : ℕ) → bit h z ≡ b → P z ≡ Q z) (y : ℕ) (S : Nearest Q (h - 1) (setAt b h x) y)
+    (d : ℕ) (other : (z : ℕ) → bit h z ≡ not b → P z ≡ true → d ≤ distance (h - 1) x z) (chosen : Chosen b (distance (h - 1) x y + cost h x b) (d + cost h x (not b))) where
+  as-set : (z : ℕ) → distance (h - 1) (setAt b h x) z ≡ distance (h - 1) x z
+  as-set z = dist-ends (h - 1) (setAt b h x) x z z (set-ends b h x some) refl
+
+  y-bit : bit h y ≡ b
+  y-bit = set-same b h x some y (S .begins)
+
+  begins : y / 2 ^ h ≡ x / 2 ^ h
+  begins = above (h - 1) h (setAt b h x) y (omega arith) (S .begins) ∙ set-begins b h x some
+
+  y-dist : distance h x y ≡ distance (h - 1) x y + cost h x b
+  y-dist = dist-at h x y b some y-bit
+
+  -- on the same side
+  near-same : (z : ℕ) → z / 2 ^ h ≡ x / 2 ^ h → P z ≡ true → bit h z ≡ b → distance h x y ≤ distance h x z
+  near-same z q p r = omega (arith, y-dist, dist-at h x z b some r, as-set y, as-set z, S .nearest z (begins-set b h x some z q r) (sym (own z r) ∙ p))
+
+  least-same : (z : ℕ) → z / 2 ^ h ≡ x / 2 ^ h → P z ≡ true → bit h z ≡ b → distance h x z ≡ distance h x y → y ≤ z
+  least-same z q p r e = S .least z (begins-set b h x some z q r) (sym (own z r) ∙ p) (omega (arith, e, y-dist, dist-at h x z b some r, as-set y, as-set z))
+
+  -- on the other
+  near-other : (z : ℕ) → P z ≡ true → bit h z ≡ not b → distance h x y ≤ distance h x z
+  near-other z p r = omega (arith, y-dist, dist-at h x z (not b) some r, other z r p, chosen-le b _ _ chosen)
+
+  least-other : (c : Bool) → b ≡ c → (z : ℕ) → z / 2 ^ h ≡ x / 2 ^ h → P z ≡ true → bit h z ≡ not b → distance h x z ≡ distance h x y → y ≤ z
+  least-other true s z q p r e = absurd (omega (arith, e, y-dist, dist-at h x z (not b) some r, other z r p, chosen-lt b _ _ chosen s))
+  least-other false s z q p r e = off-before h y z some (begins ∙ sym q) (y-bit ∙ s) (r ∙ ap not s)
+
+  pub node-nearest : Nearest P h x y
+  node-nearest = record {
+    begins = begins;
+    passes = own y y-bit ∙ S .passes;
+    nearest = λ z q p. elim (either (bit h z) b) [ inl r ↦ near-same z q p r | inr r ↦ near-other z p r ];
+    least = λ z q p e. elim (either (bit h z) b) [ inl r ↦ least-same z q p r e | inr r ↦ least-other b refl z q p r e ];
+  }
+
+-- a test that does not look at the setting of height h: it is kept
+free-nearest : (P : ℕ → Bool) (h x y : ℕ) → 0 < h → LooksAt P (h - 1) → Nearest P (h - 1) x y → Nearest P h x y
+unfolding indicator xor
+free-nearest P h x y some looks S =
+    node-nearest P h x some (bit h x) P (λ z _. refl) y (subst (λ (v : ℕ). Nearest P (h - 1) v y) (sym (set-own h x some)) S) (distance (h - 1) x y) other (keeps (bit h x))
+  where
+    -- z with the settings of x down to that one
+    from-x : ℕ → ℕ
+    from-x z = x / 2 ^ (h - 1) * 2 ^ (h - 1) + z % 2 ^ (h - 1)
+
+    ends : (z : ℕ) → from-x z % 2 ^ (h - 1) ≡ z % 2 ^ (h - 1)
+    ends z = low (x / 2 ^ (h - 1)) (h - 1) (mod-lt z (pow-pos (h - 1)))
+
+    other : (z : ℕ) → bit h z ≡ not (bit h x) → P z ≡ true → distance (h - 1) x y ≤ distance (h - 1) x z
+    other z r p =
+        omega (arith, S .nearest (from-x z) (high (x / 2 ^ (h - 1)) (h - 1) (mod-lt z (pow-pos (h - 1)))) (looks (from-x z) z (ends z) ∙ p), dist-ends (h - 1) x x (from-x z) z refl (ends z))
+
+    keeps : (a : Bool) → Chosen a (distance (h - 1) x y + indicator (xor a a)) (distance (h - 1) x y + indicator (xor a (not a)))
+    keeps true = omega arith
+    keeps false = omega arith
+
+-- a test looks only at more settings, too
+pub looks-up : (P : ℕ → Bool) (g h : ℕ) → g ≤ h → LooksAt P g → LooksAt P h
+looks-up P g h l looks y z q = looks y z (sym (less-of y) ∙ ap (λ (r : ℕ). r % 2 ^ g) q ∙ less-of z)
+  where
+    less-of : (v : ℕ) → v % 2 ^ h % 2 ^ g ≡ v % 2 ^ g
+    less-of v = let e : (h - g) + g ≡ h = omega arith in subst (λ (k : ℕ). v % 2 ^ k % 2 ^ g ≡ v % 2 ^ g) e (mod-mod-pow v (h - g) g)
+
+-- ... so all settings before those that it looks at are kept
+pub nearest-up : (P : ℕ → Bool) (g h x y : ℕ) → g ≤ h → LooksAt P g → Nearest P g x y → Nearest P h x y
+nearest-up P g zero x y l looks S = let e : g ≡ 0 = omega arith in subst (λ (k : ℕ). Nearest P k x y) e S
+nearest-up P g (suc h) x y l looks S = elim (tri g (suc h)) [
+  | less q ↦ (
+      let e : h ≡ suc h - 1 = omega arith in
+      free-nearest P (suc h) x y (omega arith) (subst (LooksAt P) e (looks-up P g h (omega arith) looks)) (subst (λ (k : ℕ). Nearest P k x y) e (nearest-up P g h x y (omega arith) looks S)))
+  | same q ↦ subst (λ (k : ℕ). Nearest P k x y) q S
+  | more q ↦ absurd (omega arith)
+]
+
+-- what is apart by fewer settings is so by more
+pub apart-up : (P : ℕ → Bool) (g h x d : ℕ) → g ≤ h → Apart P g x d → Apart P h x d
+apart-up P g h x d l A z p = omega (arith, A z p, dist-mono g h x z l)
+
+-- what is apart on either side of a setting, and the setting counted
+pub apart-sides : (P : ℕ → Bool) (h x : ℕ) → 0 < h → (Q : Bool → ℕ → Bool) → ((z : ℕ) → P z ≡ Q (bit h z) z) → (c : Bool → ℕ) → ((b : Bool) → Apart (Q b) (h - 1) x (c b))
+    → (d : ℕ) → ((b : Bool) → d ≤ c b + cost h x b) → Apart P h x d
+apart-sides P h x some Q own c A d l z p = let b = bit h z in omega (arith, dist-at h x z b some refl, A b z (sym (own z) ∙ p), l b)
+
+-- what does not pass is apart from what does
+pub apart-one : (P : ℕ → Bool) (h x : ℕ) → LooksAt P h → P x ≡ false → Apart P h x 1
+apart-one P h x looks out z p = elim (tri 0 (distance h x z)) [
+  | less l ↦ omega arith
+  | same e ↦ absurd (true≢false (sym p ∙ looks z x (dist-zero h x z (sym e)) ∙ out))
+  | more l ↦ absurd (omega arith)
+]
