@@ -28,6 +28,7 @@ static FILE *opened(const char *path, const char *mode)
     exit(1);
 }
 
+/* Counted are four workloads by all operations, and the multiples of 1,021 by the two rows of closest. */
 static void read_instructions(const char *path, struct results *r)
 {
     unsigned w, op, side, lines = 0, all = (4 * OPERATIONS + 2 + ROWS + LOOSE) * SIDES, two = MEASURED, loose = two + ROWS;

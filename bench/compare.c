@@ -138,7 +138,8 @@ static void damage_word(uint8_t *table, uint64_t k, uint64_t bit, int kind)
     put_word(table, k, word);
 }
 
-/* Damage i of DAMAGED: a wrong length, a short sheet or out memory, the header, a record, the last one, or a place too few. */
+/* Damage i of DAMAGED: a wrong length, a short sheet or out memory, the header, a record, the last one, or a place too few.
+ * Where there is no record, it is the header again. */
 static void damage(const struct table *t, struct pair *p, enum operation op, int i)
 {
     uint64_t k = t->count ? next_random(&p->seed) % t->count + 1 : 0, bit = next_random(&p->seed) % 64;

@@ -6,7 +6,7 @@ pub fn distance(one: u64, other: u64) -> u64 {
 
 /// The one of these setups that differs from the given one in the fewest settings; among equals the
 /// smallest.
-pub fn closest_of(setups: impl IntoIterator<Item = u64>, given: u64) -> Option<u64> {
-    let setups = setups.into_iter();
+pub fn closest_of(setups: &[u64], given: u64) -> Option<u64> {
+    let setups = setups.iter().copied();
     setups.min_by_key(|&setup| (distance(setup, given), setup))
 }

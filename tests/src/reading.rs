@@ -1,5 +1,5 @@
 //! A table read after the paper: its records and their faults, which setups are permitted, and
-//! what the counts and ranks are. Numbers are u128 where they may grow.
+//! what the counts, ranks and closest setups are. Numbers are u128 where they may grow.
 
 use crate::distance::distance;
 use crate::layout::{fields, words_of};

@@ -150,6 +150,17 @@ pub fn with_exactly(n: u64, j: u64) -> Vec<u64> {
     from_states(n, j + 1, next, |state| state == j)
 }
 
+/// Some j with the table of the setups of n settings with exactly j on: for n up to 8 and for 63 every
+/// j, otherwise two.
+pub fn some_with_exactly(rng: &mut Rng, n: u64) -> Vec<(u64, Vec<u64>)> {
+    let chosen: Vec<u64> = match n {
+        0..=8 | 63 => (0..=n).collect(),
+        _ => vec![rng.below(n + 1), rng.below(n + 1)],
+    };
+    let tables = chosen.into_iter().map(|j| (j, with_exactly(n, j)));
+    tables.collect()
+}
+
 /// The table of the multiples of m among the setups of n settings: the state is the remainder.
 pub fn multiples(n: u64, m: u64) -> Vec<u64> {
     let m = m as usize;

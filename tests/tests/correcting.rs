@@ -29,7 +29,7 @@ fn closest_setups_agree_with_the_paper() {
         ("up to 65,535 records", wide),
     ]);
     let tally = &comparison.tally;
-    assert!(tally.calls("closest") >= 40_000);
+    assert!(tally.calls("closest") >= 60_000);
     for number in [10, 12, 21] {
         assert!(tally.answered("closest", number) >= 500, "refusal {number}");
     }
@@ -111,7 +111,7 @@ fn compare_function(comparison: &mut Comparison, function: &TruthTable) {
     let permitted = (0..).zip(function).filter(|(_, permitted)| **permitted);
     let permitted: Vec<u64> = permitted.map(|(setup, _)| setup).collect();
     compare(comparison, &words, 0..function.len() as u64, |setup| {
-        closest_of(permitted.iter().copied(), setup)
+        closest_of(&permitted, setup)
     });
 }
 
@@ -184,16 +184,11 @@ fn turned_to(setup: u64, j: u64) -> u64 {
     setup
 }
 
-/// For each n up to 8 and for 63 every j, otherwise two.
 fn exactly(comparison: &mut Comparison) {
     for n in 0..=63 {
-        let chosen = match n {
-            0..=8 | 63 => (0..=n).collect(),
-            _ => vec![comparison.rng.below(n + 1), comparison.rng.below(n + 1)],
-        };
-        for j in chosen {
+        for (j, words) in tables::some_with_exactly(&mut comparison.rng, n) {
             let setups = any_setups(&mut comparison.rng, n);
-            compare(comparison, &tables::with_exactly(n, j), setups, |setup| {
+            compare(comparison, &words, setups, |setup| {
                 let closest = turned_to(setup, j);
                 let on = u64::from(setup.count_ones());
                 assert_eq!(distance(closest, setup), on.abs_diff(j));
@@ -204,7 +199,7 @@ fn exactly(comparison: &mut Comparison) {
 }
 
 fn multiples(comparison: &mut Comparison) {
-    for m in [1, 3, 5, 7, 9, 31, 97, 255, 997] {
+    for m in [1, 3, 5, 7, 9, 11, 97, 997] {
         for n in [1, 5, 10, 15, 20, 30, 45, 62, 63] {
             let setups = any_setups(&mut comparison.rng, n);
             compare(comparison, &tables::multiples(n, m), setups, |setup| {
@@ -234,7 +229,7 @@ fn compare_few(comparison: &mut Comparison, n: u64, count: usize) -> Vec<u64> {
     }
     let words = tables::of_setups(n, permitted.iter().copied());
     compare(comparison, &words, setups.clone(), |setup| {
-        closest_of(permitted.iter().copied(), setup)
+        closest_of(&permitted, setup)
     });
     compare(comparison, &tables::turned_over(&words), setups, |setup| {
         by_turning(n, setup, n, |other| !permitted.contains(&other))
@@ -339,8 +334,7 @@ fn wide(comparison: &mut Comparison) {
         ask_near(comparison, &words, 3);
         ask_near(comparison, &tables::turned_over(&words), 1);
     }
-    // 1,200 setups of 63 settings have some 50 records each.
-    let words = compare_few(comparison, 63, 1_200);
-    println!("{}", words.len());
-    assert!(words.len() > 50_000);
+    // Some 44 records a setup.
+    let words = compare_few(comparison, 63, 1_400);
+    assert!(words.len() > 60_000);
 }

@@ -1,12 +1,13 @@
-//! The reference itself: counts, also by how many settings are on, ranks and setups against a
-//! brute-force reader of all setups, Pascal's triangle against products, the tables of parts against
-//! those made from truth tables, starts and sizes against adding up, and two tables made into one, and
-//! loose tables made proper, against trying all setups.
+//! The reference itself: counts, also by how many settings are on, ranks, setups and closest setups
+//! against a brute-force reader of all setups, Pascal's triangle against products, the tables of parts
+//! against those made from truth tables, starts and sizes against adding up, and two tables made into
+//! one, and loose tables made proper, against trying all setups.
 
 use setupbook_tests::call::Call;
 use setupbook_tests::combination::Operation;
 use setupbook_tests::combined::{pair_count, Results};
 use setupbook_tests::comparison::report;
+use setupbook_tests::distance::closest_of;
 use setupbook_tests::layout::bytes_of;
 use setupbook_tests::loose;
 use setupbook_tests::loosening::Loose;
@@ -82,10 +83,23 @@ fn compare_ranks(table: &Table) {
     assert_eq!(all, u128::from(rank), "{:016X?}", table.words);
 }
 
+/// The closest setup by trying all setups: to each, or of more than 9 settings to some.
+fn compare_closest(table: &Table) {
+    let permitted = (0..1u64 << table.n).filter(|&setup| table.permits(table.root, setup));
+    let permitted: Vec<u64> = permitted.collect();
+    let step = (1 << table.n.saturating_sub(9)) | 1;
+    for setup in (0..1 << table.n).step_by(step) {
+        let closest = closest_of(&permitted, setup);
+        let words = &table.words;
+        assert_eq!(table.closest(setup), closest, "{setup} of {words:016X?}");
+    }
+}
+
 fn compare_all(table: &Table) {
     compare_counts(table);
     compare_rows(table);
     compare_ranks(table);
+    compare_closest(table);
 }
 
 #[test]

@@ -6,6 +6,7 @@ use setupbook_tests::call::{Answer, Call, List, Outcome, Refusal};
 use setupbook_tests::combination::{self, Memories, Operation};
 use setupbook_tests::combined::Reading;
 use setupbook_tests::comparison::{front, Comparison};
+use setupbook_tests::distance::{closest_of, distance};
 use setupbook_tests::files;
 use setupbook_tests::layout::{bytes_of, words_of};
 
@@ -170,27 +171,25 @@ fn ranks_and_setups() {
 #[test]
 fn setups_ruled_out() {
     let mut sampler = Sampler::new();
-    let found = |words| Answer { status: 0, words };
     for (setup, answer) in [
-        (5, found([2, 3, 4])),
-        (6, found([2, 3, 7])),
-        (4, found([0, 0, 0])),
-        (7, found([0, 0, 0])),
+        (5, Answer::found([2, 3, 4])),
+        (6, Answer::found([2, 3, 7])),
+        (4, Answer::found([0, 0, 0])),
+        (7, Answer::found([0, 0, 0])),
         (8, refused(12, 0)),
     ] {
         assert_eq!(sampler.answer(Call::RuledOut { setup }, &A), answer);
     }
     for setup in 0..8 {
         let empty = sampler.answer(Call::RuledOut { setup }, &[0x0C00000000000001]);
-        assert_eq!(empty, found([1, 0, 0]));
+        assert_eq!(empty, Answer::found([1, 0, 0]));
     }
 }
 
-/// Counts with a sheet of 64 places for each word of the table and two more, all ones. Those that
-/// are required come back blank, and with one of them too few nothing is counted.
-fn count_on(comparison: &mut Comparison, table: &[u8], m: u64) -> Answer {
-    let call = Call::CountOn { m };
-    let places = 64 * table.len() / 8;
+/// Asks with a sheet of so many places for each word of the table and two more, all ones. Those that
+/// are required come back blank, and with one of them or one byte too few nothing is answered.
+fn ask_in(comparison: &mut Comparison, call: Call, table: &[u8], places_a_word: usize) -> Answer {
+    let places = places_a_word * table.len() / 8;
     let sheet = vec![0xFF; 8 * places + 16];
     let outcome = comparison.compare(call, table, &sheet, &[]);
     let left = words_of(&outcome.sheet);
@@ -202,6 +201,10 @@ fn count_on(comparison: &mut Comparison, table: &[u8], m: u64) -> Answer {
         assert!(short.sheet.iter().all(|&byte| byte == 0xFF));
     }
     outcome.answer
+}
+
+fn count_on(comparison: &mut Comparison, table: &[u8], m: u64) -> Answer {
+    ask_in(comparison, Call::CountOn { m }, table, 64)
 }
 
 #[test]
@@ -238,15 +241,61 @@ fn setups_by_settings_on() {
     }
 }
 
+fn closest(comparison: &mut Comparison, words: &[u64], setup: u64) -> Answer {
+    let call = Call::Closest { setup };
+    ask_in(comparison, call, &bytes_of(words), 2)
+}
+
+#[test]
+fn closest_setups() {
+    let mut comparison = Comparison::of_run();
+    let opposite = a_with(0, 0x0C00000060000007);
+    let empty = [0x0C00000000000001];
+    for (words, setup, answer) in [
+        (&A[..], 0, Answer::found([0, 0, 0])),
+        (&A, 4, Answer::found([4, 0, 0])),
+        (&A, 5, Answer::found([1, 1, 0])),
+        (&A, 6, Answer::found([2, 1, 0])),
+        (&A, 7, Answer::found([7, 0, 0])),
+        (&A, 8, refused(12, 0)),
+        (&A, u64::MAX, refused(12, 0)),
+        (&opposite, 0, Answer::found([5, 2, 0])),
+        (&opposite, 1, Answer::found([5, 1, 0])),
+        (&opposite, 2, Answer::found([6, 1, 0])),
+        (&opposite, 6, Answer::found([6, 0, 0])),
+        (&opposite, 7, Answer::found([5, 1, 0])),
+        (&empty, 0, refused(21, 0)),
+        (&empty, 7, refused(21, 0)),
+        (&empty, 8, refused(12, 0)),
+        (&[0x0000000000000000], 0, Answer::found([0, 0, 0])),
+        (&[0x0000000000000000], 1, refused(12, 0)),
+        (&[0x0000000000000001], 0, refused(21, 0)),
+    ] {
+        assert_eq!(closest(&mut comparison, words, setup), answer);
+    }
+    for sample in accepted_samples() {
+        for setup in 0..1 << sample.n {
+            let answer = match closest_of(&sample.permitted, setup) {
+                Some(closest) => Answer::found([closest, distance(closest, setup), 0]),
+                None => refused(21, 0),
+            };
+            assert_eq!(closest(&mut comparison, &sample.words, setup), answer);
+        }
+    }
+}
+
 /// The sheet is as long as A needs it: 9 alone blanks it.
 #[test]
-fn refused_tables_by_settings_on() {
+fn refused_tables_with_longer_sheets() {
     let mut comparison = Comparison::of_run();
-    for (table, number, place) in refused_samples() {
-        for m in [0, 2, 4, u64::MAX] {
-            let outcome = comparison.compare(Call::CountOn { m }, &table, &[0xFF; 2051], &[]);
+    let numbers = [0, 2, 5, 8, u64::MAX];
+    let of_count = numbers.map(|m| (Call::CountOn { m }, 64 * 32));
+    let of_closest = numbers.map(|setup| (Call::Closest { setup }, 2 * 32));
+    for (call, needed) in of_count.into_iter().chain(of_closest) {
+        for (table, number, place) in refused_samples() {
+            let outcome = comparison.compare(call, &table, &vec![0xFF; needed + 3], &[]);
             assert_eq!(outcome.answer, refused(number, place));
-            let (places, spare) = outcome.sheet.split_at(2048);
+            let (places, spare) = outcome.sheet.split_at(needed);
             let left = if number == 9 { 0 } else { 0xFF };
             assert!(places.iter().all(|&byte| byte == left));
             assert_eq!(spare, [0xFF; 3]);

@@ -111,15 +111,10 @@ fn chains(comparison: &mut Comparison) {
     }
 }
 
-/// For each n up to 8 and for 63 every j, otherwise two.
 fn exactly(comparison: &mut Comparison) {
     for n in 0..=63 {
-        let chosen = match n {
-            0..=8 | 63 => (0..=n).collect(),
-            _ => vec![comparison.rng.below(n + 1), comparison.rng.below(n + 1)],
-        };
-        for j in chosen {
-            let table = bytes_of(&tables::with_exactly(n, j));
+        for (j, words) in tables::some_with_exactly(&mut comparison.rng, n) {
+            let table = bytes_of(&words);
             let count = ask(comparison, &table, j);
             assert_eq!(count, pascal::row(n)[j as usize], "{j} of {n}");
             let any = comparison.rng.below(n + 1);

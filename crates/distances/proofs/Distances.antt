@@ -17,7 +17,7 @@ use Rattle.diagram.proofs.Bits.{bit-mod}
 use Rattle.diagram.proofs.Digits.{above}
 use Rattle.distances.specs.Distance.{distance}
 
-indicator-le : (b : Bool) → indicator b ≤ 1
+pub indicator-le : (b : Bool) → indicator b ≤ 1
 unfolding indicator
 indicator-le true = omega arith
 indicator-le false = omega arith

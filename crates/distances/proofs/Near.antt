@@ -1,19 +1,17 @@
 -- The nearest number that passes a test, by its settings one after the other. Assumes nothing.
-use Prim.Native.Nat.{ℕ, zero, suc, _+_, _-_, _*_, _/_, _%_, _^_, _≤_, _<_}
+use Prim.Native.Nat.{ℕ, zero, suc, _+_, _-_, _/_, _%_, _^_, _≤_, _<_}
 use mathlib.Core.Path.{_≡_, refl, sym, ap, subst, _∙_}
 use mathlib.Core.Logic.{_⊎_, inl, inr}
 use mathlib.Core.Bool.{Bool, true, false, not, xor, true≢false}
-use native.Mathlib.Nat.{mod-lt}
 use native.Mathlib.Omega.{arith}
-use lib.Pow.{pow-pos, high, low, mod-mod-pow}
 use Rattle.words.proofs.Cases.{less, same, more, tri}
 use Rattle.diagram.specs.Meaning.{bit}
 use Rattle.diagram.specs.Count.{indicator}
 use Rattle.diagram.proofs.Digits.{above}
 use Rattle.distances.specs.Distance.{distance}
-use Rattle.distances.specs.Inner.{setAt, LooksAt, Apart, Nearest, Chosen}
-use Rattle.distances.proofs.Settings.{set-ends, set-bit, set-begins, begins-set, set-same, set-own, off-before}
-use Rattle.distances.proofs.Distances.{dist-step, dist-mono, dist-self, dist-ends, dist-zero, dist-same}
+use Rattle.distances.specs.Inner.{setAt, joined, LooksAt, Apart, Reached, Nearest, Chosen}
+use Rattle.distances.proofs.Settings.{set-ends, set-bit, set-begins, begins-set, set-same, set-own, off-before, ends-less, joined-begins, joined-ends}
+use Rattle.distances.proofs.Distances.{dist-step, dist-mono, dist-self, dist-ends, dist-begins, dist-zero, dist-same}
 
 -- what passes is nearest to itself
 pub own-nearest : (P : ℕ → Bool) (h x : ℕ) → P x ≡ true → Nearest P h x x
@@ -31,13 +29,17 @@ cost h x b = indicator (xor (bit h x) b)
 pub dist-at : (h x z : ℕ) (b : Bool) → 0 < h → bit h z ≡ b → distance h x z ≡ distance (h - 1) x z + cost h x b
 dist-at h x z b some p = dist-step h x z some ∙ ap (λ (c : Bool). distance (h - 1) x z + cost h x c) p
 
-chosen-le : (b : Bool) (c d : ℕ) → Chosen b c d → c ≤ d
+pub chosen-le : (b : Bool) (c d : ℕ) → Chosen b c d → c ≤ d
 chosen-le true c d l = omega arith
 chosen-le false c d l = l
 
 chosen-lt : (b : Bool) (c d : ℕ) → Chosen b c d → b ≡ true → c < d
 chosen-lt true c d l q = l
 chosen-lt false c d l q = absurd (true≢false (sym q))
+
+pub chosen-mono : (b : Bool) (a c d : ℕ) → a ≤ c → Chosen b c d → Chosen b a d
+chosen-mono true a c d l q = omega arith
+chosen-mono false a c d l q = omega arith
 
 either : (a b : Bool) → (a ≡ b) ⊎ (a ≡ not b)
 either true true = inl refl
@@ -89,16 +91,11 @@ unfolding indicator xor
 free-nearest P h x y some looks S =
     node-nearest P h x some (bit h x) P (λ z _. refl) y (subst (λ (v : ℕ). Nearest P (h - 1) v y) (sym (set-own h x some)) S) (distance (h - 1) x y) other (keeps (bit h x))
   where
-    -- z with the settings of x down to that one
-    from-x : ℕ → ℕ
-    from-x z = x / 2 ^ (h - 1) * 2 ^ (h - 1) + z % 2 ^ (h - 1)
-
-    ends : (z : ℕ) → from-x z % 2 ^ (h - 1) ≡ z % 2 ^ (h - 1)
-    ends z = low (x / 2 ^ (h - 1)) (h - 1) (mod-lt z (pow-pos (h - 1)))
-
     other : (z : ℕ) → bit h z ≡ not (bit h x) → P z ≡ true → distance (h - 1) x y ≤ distance (h - 1) x z
     other z r p =
-        omega (arith, S .nearest (from-x z) (high (x / 2 ^ (h - 1)) (h - 1) (mod-lt z (pow-pos (h - 1)))) (looks (from-x z) z (ends z) ∙ p), dist-ends (h - 1) x x (from-x z) z refl (ends z))
+        let v = joined (h - 1) x z in
+        let ends = joined-ends (h - 1) x z in
+        omega (arith, S .nearest v (joined-begins (h - 1) x z) (looks v z ends ∙ p), dist-ends (h - 1) x x v z refl ends)
 
     keeps : (a : Bool) → Chosen a (distance (h - 1) x y + indicator (xor a a)) (distance (h - 1) x y + indicator (xor a (not a)))
     keeps true = omega arith
@@ -106,10 +103,7 @@ free-nearest P h x y some looks S =
 
 -- a test looks only at more settings, too
 pub looks-up : (P : ℕ → Bool) (g h : ℕ) → g ≤ h → LooksAt P g → LooksAt P h
-looks-up P g h l looks y z q = looks y z (sym (less-of y) ∙ ap (λ (r : ℕ). r % 2 ^ g) q ∙ less-of z)
-  where
-    less-of : (v : ℕ) → v % 2 ^ h % 2 ^ g ≡ v % 2 ^ g
-    less-of v = let e : (h - g) + g ≡ h = omega arith in subst (λ (k : ℕ). v % 2 ^ k % 2 ^ g ≡ v % 2 ^ g) e (mod-mod-pow v (h - g) g)
+looks-up P g h l looks y z q = looks y z (ends-less g h y z l q)
 
 -- ... so all settings before those that it looks at are kept
 pub nearest-up : (P : ℕ → Bool) (g h x y : ℕ) → g ≤ h → LooksAt P g → Nearest P g x y → Nearest P h x y
@@ -130,6 +124,28 @@ apart-up P g h x d l A z p = omega (arith, A z p, dist-mono g h x z l)
 pub apart-sides : (P : ℕ → Bool) (h x : ℕ) → 0 < h → (Q : Bool → ℕ → Bool) → ((z : ℕ) → P z ≡ Q (bit h z) z) → (c : Bool → ℕ) → ((b : Bool) → Apart (Q b) (h - 1) x (c b))
     → (d : ℕ) → ((b : Bool) → d ≤ c b + cost h x b) → Apart P h x d
 apart-sides P h x some Q own c A d l z p = let b = bit h z in omega (arith, dist-at h x z b some refl, A b z (sym (own z) ∙ p), l b)
+
+-- what is reached by fewer settings is so by more
+pub reached-up : (P : ℕ → Bool) (g h x d : ℕ) → g ≤ h → LooksAt P g → Reached P g x d → Reached P h x d
+reached-up P g h x d l looks (z, p, q) =
+    let v = joined g x z in
+    let ends = joined-ends g x z in
+    (v, looks v z ends ∙ p, omega (arith, dist-begins g h x v l (joined-begins g x z), dist-ends g x x v z refl ends))
+
+-- what is reached with a setting on, or off, and the setting counted
+pub reached-side : (P : ℕ → Bool) (h x : ℕ) → 0 < h → (b : Bool) (Q : ℕ → Bool) → ((z : ℕ) → bit h z ≡ b → P z ≡ Q z) → LooksAt Q (h - 1) → (d : ℕ) → Reached Q (h - 1) x d
+    → Reached P h x (d + cost h x b)
+reached-side P h x some b Q own looks d (z, p, q) =
+    let v = setAt b h z in
+    let ends = set-ends b h z some in
+    (v, own v (set-bit b h z some) ∙ looks v z ends ∙ p, omega (arith, dist-at h x v b some (set-bit b h z some), dist-ends (h - 1) x x v z refl ends))
+
+-- the nearest is no farther than what is reached
+pub nearest-le : (P : ℕ → Bool) (h x y d : ℕ) → LooksAt P h → Nearest P h x y → Reached P h x d → distance h x y ≤ d
+nearest-le P h x y d looks S (z, p, q) =
+    let v = joined h x z in
+    let ends = joined-ends h x z in
+    omega (arith, S .nearest v (joined-begins h x z) (looks v z ends ∙ p), dist-ends h x x v z refl ends)
 
 -- what does not pass is apart from what does
 pub apart-one : (P : ℕ → Bool) (h x : ℕ) → LooksAt P h → P x ≡ false → Apart P h x 1

@@ -1,6 +1,8 @@
 // The distance of two setups, and a setup with one setting set.
 ghost use mathlib.Core.Path.{_≡_};
 ghost use Prim.Native.Nat.{_≤_, _<_, _^_};
+ghost use Rattle.diagram.specs.Meaning.{bit};
+ghost use Rattle.diagram.specs.Count.{indicator};
 ghost use Rattle.distances.specs.Distance.{distance};
 ghost use Rattle.distances.specs.Inner.{setAt};
 use diagram::Setup;
@@ -10,6 +12,14 @@ pub fn between(x: Setup, y: Setup) -> u64
     ensures { λ r. ⌜ r ≡ distance 64 (x .0) (y .0) ⌝ }
 {
     u64::count_ones(x.0 ^ y.0) as u64
+}
+
+// The setting of height h: 1 if it is on, else 0.
+pub fn setting(x: Setup, h: u64) -> u8
+    requires { ⌜ (0 < h) × (h ≤ 63) ⌝ }
+    ensures { λ r. ⌜ r ≡ indicator (bit h (x .0)) ⌝ }
+{
+    ((x.0 >> (h - 1)) % 2) as u8
 }
 
 // Setup x with its setting of height h on or off.

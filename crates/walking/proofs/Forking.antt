@@ -6,6 +6,7 @@ use mathlib.Core.List.{List}
 use native.Mathlib.Omega.{arith}
 use lib.ListN.{length}
 use Rattle.words.specs.Words.{wordAt}
+use Rattle.words.proofs.Cases.{less, same, more, tri}
 use Rattle.diagram.specs.Format.{Words, height}
 use Rattle.diagram.specs.Meaning.{bit, under}
 use Rattle.diagram.specs.Ordered.{Ordered}
@@ -40,6 +41,13 @@ module _ (t : List ℕ) (n e v : ℕ) (L : Lies t n e) (v-is : v ≡ e / 2) wher
     side-low : (b : Bool) → (cond b high low / 2 ≤ e / 2) × (height w (cond b high low / 2) < h)
     side-low b = rw (side-is b) (cofactor-low w n (L .nodes) ordered e h (L .inside) (omega (arith, height-is)) tall b)
 
+    side-smaller : (b : Bool) → cond b high low / 2 < e / 2
+    side-smaller b = let l = side-low b in elim (tri (cond b high low / 2) (e / 2)) [
+      | less q ↦ q
+      | same q ↦ absurd (omega (arith, height-is, ap (height w) q))
+      | more q ↦ absurd (omega arith)
+    ]
+
     sides : (y : ℕ) → under w e y ≡ under w (cond (bit h y) high low) y
     sides y = cofactor-own w n (L .nodes) ordered e h (L .inside) (omega (arith, height-is)) tall y ∙ ap (λ (d : ℕ). under w d y) (sym (side-is (bit h y)))
 
@@ -49,6 +57,7 @@ module _ (t : List ℕ) (n e v : ℕ) (L : Lies t n e) (v-is : v ≡ e / 2) wher
       tall = tall;
       few = omega (arith, height-is, height-le-settings w n (L .nodes) ordered (e / 2) (L .inside));
       lies = λ b. record { nodes = L .nodes; holds = L .holds; reduced = L .reduced; inside = omega (arith, side-low b, L .inside) };
+      smaller = side-smaller;
       lower = λ b. side-low b .1;
       differ = λ q. cofactors-differ w n (L .nodes) (L .reduced) e h (L .inside) height-is tall (sym (side-is true) ∙ q ∙ side-is false);
       own = sides;

@@ -26,6 +26,7 @@ pub record Forks (bytes : List ℕ) (n e h high low : ℕ) : Type 0 where
   pub tall : 0 < h
   pub few : h ≤ n
   pub lies : (b : Bool) → Lies bytes n (cond b high low)
+  pub smaller : (b : Bool) → cond b high low / 2 < e / 2
   pub lower : (b : Bool) → height (wordAt bytes) (cond b high low / 2) < h
   pub differ : high ≢ low
   pub own : (y : ℕ) → under (wordAt bytes) e y ≡ under (wordAt bytes) (cond (bit h y) high low) y

@@ -1,0 +1,2 @@
+-- What is known of the distances in the sheet.
+pub mod Inner
