@@ -2,3 +2,4 @@
 pub mod Settings
 pub mod Distances
 pub mod Near
+pub mod Looking

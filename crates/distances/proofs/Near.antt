@@ -2,7 +2,7 @@
 use Prim.Native.Nat.{ℕ, zero, suc, _+_, _-_, _/_, _%_, _^_, _≤_, _<_}
 use mathlib.Core.Path.{_≡_, refl, sym, ap, subst, _∙_}
 use mathlib.Core.Logic.{_⊎_, inl, inr}
-use mathlib.Core.Bool.{Bool, true, false, not, xor, true≢false}
+use mathlib.Core.Bool.{Bool, true, false, not, xor, true≢false, Bool·not-not}
 use native.Mathlib.Omega.{arith}
 use Rattle.words.proofs.Cases.{less, same, more, tri}
 use Rattle.diagram.specs.Meaning.{bit}
@@ -21,6 +21,13 @@ own-nearest P h x p = record {
   nearest = λ z q r. omega (arith, dist-self h x);
   least = λ z q r e. omega (arith, dist-same h x z q (e ∙ dist-self h x));
 }
+
+-- the nearest is no farther than what is reached
+pub nearest-le : (P : ℕ → Bool) (h x y d : ℕ) → LooksAt P h → Nearest P h x y → Reached P h x d → distance h x y ≤ d
+nearest-le P h x y d looks S (z, p, q) =
+    let v = joined h x z in
+    let ends = joined-ends h x z in
+    omega (arith, S .nearest v (joined-begins h x z) (looks v z ends ∙ p), dist-ends h x x v z refl ends)
 
 -- the setting of height h, by whether it is on: what it costs to have it so
 abbrev pub cost : ℕ → ℕ → Bool → ℕ
@@ -85,21 +92,70 @@ module _ (P : ℕ → Bool) (h x : ℕ) (some : 0 < h) (b : Bool) (Q : ℕ → B
     least = λ z q p e. elim (either (bit h z) b) [ inl r ↦ least-same z q p r e | inr r ↦ least-other b refl z q p r e ];
   }
 
--- a test that does not look at the setting of height h: it is kept
-free-nearest : (P : ℕ → Bool) (h x y : ℕ) → 0 < h → LooksAt P (h - 1) → Nearest P (h - 1) x y → Nearest P h x y
+-- what it costs to keep a setting, and to turn it over
+keep-cost : (h x : ℕ) → cost h x (bit h x) ≡ 0
 unfolding indicator xor
-free-nearest P h x y some looks S =
-    node-nearest P h x some (bit h x) P (λ z _. refl) y (subst (λ (v : ℕ). Nearest P (h - 1) v y) (sym (set-own h x some)) S) (distance (h - 1) x y) other (keeps (bit h x))
+keep-cost h x = go (bit h x)
   where
-    other : (z : ℕ) → bit h z ≡ not (bit h x) → P z ≡ true → distance (h - 1) x y ≤ distance (h - 1) x z
-    other z r p =
-        let v = joined (h - 1) x z in
-        let ends = joined-ends (h - 1) x z in
-        omega (arith, S .nearest v (joined-begins (h - 1) x z) (looks v z ends ∙ p), dist-ends (h - 1) x x v z refl ends)
+    go : (b : Bool) → indicator (xor b b) ≡ 0
+    go true = refl
+    go false = refl
 
-    keeps : (a : Bool) → Chosen a (distance (h - 1) x y + indicator (xor a a)) (distance (h - 1) x y + indicator (xor a (not a)))
-    keeps true = omega arith
-    keeps false = omega arith
+turn-cost : (h x : ℕ) → cost h x (not (bit h x)) ≡ 1
+unfolding indicator xor
+turn-cost h x = go (bit h x)
+  where
+    go : (b : Bool) → indicator (xor b (not b)) ≡ 1
+    go true = refl
+    go false = refl
+
+-- a test P by the setting of height h: as it is on or off, one of two tests decides
+module _ (P : ℕ → Bool) (h x : ℕ) (some : 0 < h) (Q : Bool → ℕ → Bool) (own : (z : ℕ) → P z ≡ Q (bit h z) z) where
+  by-side : (b : Bool) (z : ℕ) → bit h z ≡ b → P z ≡ Q b z
+  by-side b z r = own z ∙ ap (λ (c : Bool). Q c z) r
+
+  -- x keeps the setting: what is nearest so, and nearer than what is d apart with it turned over
+  pub keep-nearest : (y d : ℕ) → Nearest (Q (bit h x)) (h - 1) x y → Apart (Q (not (bit h x))) (h - 1) x d → Chosen (bit h x) (distance (h - 1) x y) (d + 1) → Nearest P h x y
+  keep-nearest y d S A l =
+      node-nearest P h x some (bit h x) (Q (bit h x)) (by-side (bit h x)) y (subst (λ (v : ℕ). Nearest (Q (bit h x)) (h - 1) v y) (sym (set-own h x some)) S) d
+      (λ z r p. A z (sym (by-side (not (bit h x)) z r) ∙ p))
+      (subst (Chosen (bit h x) (distance (h - 1) x y + cost h x (bit h x))) (ap (λ (c : ℕ). d + c) (sym (turn-cost h x))) (chosen-mono (bit h x) _ (distance (h - 1) x y) (d + 1) (omega (arith, keep-cost h x)) l))
+
+  -- x turns it over, where it passes so, and all that passes with it kept is d apart
+  pub turn-nearest : (d : ℕ) → LooksAt (Q (not (bit h x))) (h - 1) → Q (not (bit h x)) x ≡ true → Apart (Q (bit h x)) (h - 1) x d → Chosen (not (bit h x)) 1 d → Nearest P h x (setAt (not (bit h x)) h x)
+  turn-nearest d looks p A l =
+      let b = not (bit h x) in
+      let y = setAt b h x in
+      let ends = set-ends b h x some in
+      let kept = Bool·not-not (bit h x) in
+      node-nearest P h x some b (Q b) (by-side b) y (own-nearest (Q b) (h - 1) y (looks y x ends ∙ p)) d (λ z r q. A z (sym (by-side (bit h x) z (r ∙ kept)) ∙ q))
+      (subst (λ (c : Bool). Chosen b (distance (h - 1) x y + cost h x b) (d + cost h x c)) (sym kept)
+      (chosen-mono b _ 1 _ (omega (arith, turn-cost h x, dist-ends (h - 1) x x y x refl ends, dist-self (h - 1) x)) (subst (Chosen b 1) (omega (arith, keep-cost h x)) l)))
+
+  -- what passes is apart by the setting, too, where it is turned over
+  pub apart-node : (d : ℕ) → Apart (Q (bit h x)) (h - 1) x (d + 1) → Apart (Q (not (bit h x))) (h - 1) x d → Apart P h x (d + 1)
+  apart-node d A B z p = elim (either (bit h z) (bit h x)) [
+    | inl r ↦ omega (arith, A z (sym (by-side (bit h x) z r) ∙ p), dist-mono (h - 1) h x z (omega arith))
+    | inr r ↦ omega (arith, B z (sym (by-side (not (bit h x)) z r) ∙ p), dist-at h x z (not (bit h x)) some r, turn-cost h x)
+  ]
+
+-- one setting turned over
+pub turn-dist : (h x : ℕ) → 0 < h → distance h x (setAt (not (bit h x)) h x) ≡ 1
+turn-dist h x some =
+    let b = not (bit h x) in
+    let y = setAt b h x in
+    omega (arith, dist-at h x y b some (set-bit b h x some), turn-cost h x, dist-ends (h - 1) x x y x refl (set-ends b h x some), dist-self (h - 1) x)
+
+-- a setting that the test does not look at is kept
+free-nearest : (P : ℕ → Bool) (h x y : ℕ) → 0 < h → LooksAt P (h - 1) → Nearest P (h - 1) x y → Nearest P h x y
+free-nearest P h x y some looks S = keep-nearest P h x some (λ _. P) (λ z. refl) y (distance (h - 1) x y) S apart (before (bit h x))
+  where
+    apart : Apart P (h - 1) x (distance (h - 1) x y)
+    apart z p = nearest-le P (h - 1) x y (distance (h - 1) x z) looks S (z, p, omega arith)
+
+    before : (b : Bool) → Chosen b (distance (h - 1) x y) (distance (h - 1) x y + 1)
+    before true = omega arith
+    before false = omega arith
 
 -- a test looks only at more settings, too
 pub looks-up : (P : ℕ → Bool) (g h : ℕ) → g ≤ h → LooksAt P g → LooksAt P h
@@ -139,13 +195,6 @@ reached-side P h x some b Q own looks d (z, p, q) =
     let v = setAt b h z in
     let ends = set-ends b h z some in
     (v, own v (set-bit b h z some) ∙ looks v z ends ∙ p, omega (arith, dist-at h x v b some (set-bit b h z some), dist-ends (h - 1) x x v z refl ends))
-
--- the nearest is no farther than what is reached
-pub nearest-le : (P : ℕ → Bool) (h x y d : ℕ) → LooksAt P h → Nearest P h x y → Reached P h x d → distance h x y ≤ d
-nearest-le P h x y d looks S (z, p, q) =
-    let v = joined h x z in
-    let ends = joined-ends h x z in
-    omega (arith, S .nearest v (joined-begins h x z) (looks v z ends ∙ p), dist-ends h x x v z refl ends)
 
 -- what does not pass is apart from what does
 pub apart-one : (P : ℕ → Bool) (h x : ℕ) → LooksAt P h → P x ≡ false → Apart P h x 1

@@ -16,10 +16,11 @@ use Rattle.diagram.specs.Count.{indicator}
 use Rattle.diagram.specs.Reading.{IsRecord, turn}
 use Rattle.diagram.proofs.Paths.{tall-node}
 use Rattle.distances.proofs.Distances.{indicator-le}
+use Rattle.distances.proofs.Looking.{edge-few}
 use Rattle.walking.specs.Inner.{Lies, Forks}
 use Rattle.walking.proofs.Forking.{forks}
 use Rattle.nearing.specs.Inner.{lesser, HasBytes, IsFar, Filled, Next, Fillable}
-use Rattle.nearing.proofs.Far.{edge-few, far-small, far-always, far-never, far-edge}
+use Rattle.nearing.proofs.Far.{far-small, far-always, far-never, far-edge}
 
 -- the lesser cost, as the code chooses it
 pub lesser-on : (off on : ℕ) → on < off → on ≡ lesser off on

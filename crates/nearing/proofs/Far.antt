@@ -12,21 +12,14 @@ use Rattle.words.proofs.Cases.{less, same, more, tri}
 use Rattle.diagram.specs.Format.{Words, height}
 use Rattle.diagram.specs.Meaning.{bit, under}
 use Rattle.diagram.specs.Count.{indicator}
-use Rattle.diagram.proofs.Paths.{under-always, under-never, height-le-settings}
-use Rattle.diagram.proofs.Local.{under-agree}
-use Rattle.walking.specs.Inner.{Lies, Forks}
+use Rattle.diagram.proofs.Paths.{under-always, under-never}
+use Rattle.walking.specs.Inner.{Forks}
 use Rattle.distances.specs.Distance.{distance}
-use Rattle.distances.specs.Inner.{LooksAt, Apart, Reached}
+use Rattle.distances.specs.Inner.{Apart, Reached}
 use Rattle.distances.proofs.Distances.{indicator-le, dist-le, dist-self}
-use Rattle.distances.proofs.Near.{cost, looks-up, apart-up, apart-sides, reached-up, reached-side}
+use Rattle.distances.proofs.Looking.{edge-looks, side-looks}
+use Rattle.distances.proofs.Near.{cost, apart-up, apart-sides, reached-up, reached-side}
 use Rattle.nearing.specs.Inner.{lesser, IsFar}
-
--- an edge looks only at the settings of its node
-pub edge-looks : (t : List ℕ) (n e : ℕ) → Lies t n e → LooksAt (under (wordAt t) e) (height (wordAt t) (e / 2))
-edge-looks t n e L y z q = under-agree (wordAt t) n (L .nodes) (L .reduced .ordered) e (height (wordAt t) (e / 2)) y z (L .inside) (omega arith) q
-
-pub edge-few : (t : List ℕ) (n e : ℕ) → Lies t n e → height (wordAt t) (e / 2) ≤ 63
-edge-few t n e L = omega (arith, height-le-settings (wordAt t) n (L .nodes) (L .reduced .ordered) (e / 2) (L .inside), L .holds .few-settings)
 
 -- a distance is at most the node's height, but for `never`
 pub far-le : (w : Words) (x e d : ℕ) → IsFar w x e d → e ≢ 1 → d ≤ height w (e / 2)
@@ -98,9 +91,6 @@ module _ (t : List ℕ) (n x e h high low : ℕ) (F : Forks t n e h high low) (o
   pub side-apart : (b : Bool) → Apart (under w (cond b high low)) (h - 1) x (cond b on off)
   side-apart b = apart-up (under w (cond b high low)) (height w (cond b high low / 2)) (h - 1) x (cond b on off) (omega (arith, F .lower b)) (far-side b .apart)
 
-  pub side-looks : (b : Bool) → LooksAt (under w (cond b high low)) (h - 1)
-  side-looks b = looks-up (under w (cond b high low)) (height w (cond b high low / 2)) (h - 1) (omega (arith, F .lower b)) (edge-looks t n (cond b high low) (F .lies b))
-
   own-side : (b : Bool) (z : ℕ) → bit h z ≡ b → under w e z ≡ under w (cond b high low) z
   own-side b z q = F .own z ∙ ap (λ (c : Bool). under w (cond c high low) z) q
 
@@ -130,7 +120,7 @@ module _ (t : List ℕ) (n x e h high low : ℕ) (F : Forks t n e h high low) (o
       let looks = edge-looks t n s (F .lies b) in
       let some = far-side b .reached (cheaper b (omega (arith, side-le (not b), side-cost b, q))) in
       subst (Reached (under w e) h x) (side-cost b ∙ sym q)
-      (reached-side (under w e) h x (F .tall) b (under w s) (own-side b) (side-looks b) (cond b on off) (reached-up (under w s) (height w (s / 2)) (h - 1) x (cond b on off) (omega (arith, F .lower b)) looks some))
+      (reached-side (under w e) h x (F .tall) b (under w s) (own-side b) (side-looks F b) (cond b on off) (reached-up (under w s) (height w (s / 2)) (h - 1) x (cond b on off) (omega (arith, F .lower b)) looks some))
 
   -- so the lesser cost is its distance
   pub far-edge : IsFar w x e d

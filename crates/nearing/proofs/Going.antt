@@ -19,9 +19,10 @@ use Rattle.distances.specs.Distance.{distance}
 use Rattle.distances.specs.Inner.{setAt, LooksAt, Nearest, Chosen}
 use Rattle.distances.proofs.Settings.{set-ends, set-fits, ends-less}
 use Rattle.distances.proofs.Distances.{dist-ends}
+use Rattle.distances.proofs.Looking.{edge-looks, side-looks}
 use Rattle.distances.proofs.Near.{cost, chosen-le, chosen-mono, own-nearest, node-nearest, nearest-up, nearest-le, reached-up}
 use Rattle.nearing.specs.Inner.{IsFar, Filled, Opens}
-use Rattle.nearing.proofs.Far.{edge-looks, side-cost, side-apart, side-looks, cheaper}
+use Rattle.nearing.proofs.Far.{side-cost, side-apart, cheaper}
 
 -- edge e is reached, and the settings before it are chosen in y: whatever is nearest to y from there on is nearest to x from the first edge on
 pub record Goes (t : List ℕ) (first x e y : ℕ) : Type 0 where
@@ -114,7 +115,7 @@ module _ (t s : List ℕ) (first x e y : ℕ) (K : Goes t first x e y) (G : Fill
     as-far : (r : ℕ) → Nearest (under w next) (h - 1) v r → distance (h - 1) y r ≤ dist b
     as-far r N =
         let R = reached-up (under w next) (height w (next / 2)) (h - 1) x (dist b) below looks (far-next .reached not-never) in
-        let l = nearest-le (under w next) (h - 1) v r (dist b) (side-looks t n x e h high low S (getD s high 0) (getD s low 0) was far-high far-low was-x b) N (R .0, R .1, omega (arith, R .2, dist-ends (h - 1) v x (R .0) (R .0) v-ends refl)) in
+        let l = nearest-le (under w next) (h - 1) v r (dist b) (side-looks S b) N (R .0, R .1, omega (arith, R .2, dist-ends (h - 1) v x (R .0) (R .0) v-ends refl)) in
         omega (arith, dist-ends (h - 1) v y r r (set-ends b h y (S .tall)) refl)
 
     on-side : (r : ℕ) → Nearest (under w next) (h - 1) v r → Nearest (under w e) h y r

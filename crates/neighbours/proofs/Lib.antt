@@ -1,0 +1,2 @@
+-- The laws of setups one setting off.
+pub mod Seeking
