@@ -3,10 +3,11 @@ use Prim.Native.Nat.{ℕ, zero, suc, _<_}
 use mathlib.Core.Path.{_≡_, refl, sym, ap, _∙_, subst}
 use mathlib.Core.Logic.{_⊎_, inl, inr, _↔_}
 use mathlib.Core.Bool.{Bool, true, false, cond, _||_, true≢false}
+use mathlib.Core.Option.{Option, none, some}
 use native.Mathlib.Omega.{arith}
 use Rattle.words.proofs.Cases.{less, same, more, tri, or-either}
 use Rattle.diagram.specs.Count.{someBelow}
-use Rattle.diagram.specs.Answer.{Answer, value, refusal, andThen, pass, each}
+use Rattle.diagram.specs.Answer.{Answer, value, refusal, andThen, orRefuse, pass, each}
 
 -- a refusal is no value
 pub refused-not : {A : Type 0} {r p : ℕ} {a : A} → refusal r p ≡ value a → ⊥
@@ -14,6 +15,12 @@ refused-not e = let z : _≡_ {A = ℕ} 0 1 = cc in omega arith
 
 pub value-inj : {A : Type 0} {a b : A} → value a ≡ value b → a ≡ b
 value-inj e = cc
+
+-- what was found
+pub or-some : {A : Type 0} (number : ℕ) (o : Option A) {a : A} → orRefuse number o ≡ value a → o ≡ some a
+unfolding orRefuse
+or-some number none e = absurd (refused-not e)
+or-some number (some b) e = ap some (value-inj e)
 
 -- what yields a value went through its first step
 pub then-some : {A B : Type 0} (a : Answer A) (f : A → Answer B) {b : B} → andThen a f ≡ value b → (v : A) × (a ≡ value v) × (f v ≡ value b)

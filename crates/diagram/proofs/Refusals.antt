@@ -4,13 +4,14 @@ use mathlib.Core.Path.{_≡_, refl, sym, subst}
 use mathlib.Core.Logic.{_⊎_, inl, inr}
 use mathlib.Core.Bool.{Bool, true, false, not, cond, _&&_, _||_}
 use mathlib.Core.List.{List}
+use mathlib.Core.Option.{Option, none, some}
 use native.Mathlib.Omega.{arith}
 use lib.Dec.{eqb, ltb, leb}
 use lib.ListN.{length}
 use borrow.Author.Tests.{ltb-true}
 use Rattle.words.specs.Words.{wordAt}
 use Rattle.diagram.specs.Format.{Words, settings, nodes, root, height, thenEdge, elseEdge}
-use Rattle.diagram.specs.Answer.{Answer, value, refusal, andThen, pass, each}
+use Rattle.diagram.specs.Answer.{Answer, value, refusal, andThen, orRefuse, pass, each}
 use Rattle.diagram.specs.Rules.{misled, checkRecord, named, checkNamed, wrongRoot, checkHeaderOf, checkHeader, checkRecords, checkNames, checkDiagram, check}
 use Rattle.diagram.proofs.AnswerLaws.{refused-not}
 use Rattle.diagram.proofs.Accept.{headed}
@@ -31,6 +32,11 @@ passes Q a r p e = absurd (refused-not (sym e))
 pub unless : {A : Type 0} (Q : ℕ → ℕ → Type 0) (b : Bool) (number place : ℕ) {next : Answer A} → Q number place → Refuses Q next → Refuses Q (cond b (refusal number place) next)
 unless Q true number place q h = refuses Q number place q
 unless Q false number place q h = h
+
+pub or-refuses : {A : Type 0} (Q : ℕ → ℕ → Type 0) (number : ℕ) → Q number 0 → (o : Option A) → Refuses Q (orRefuse number o)
+unfolding orRefuse
+or-refuses Q number q none = refuses Q number 0 q
+or-refuses Q number q (some a) = passes Q a
 
 -- one step after another, and a run of checks
 pub then-refuses : {A B : Type 0} (Q : ℕ → ℕ → Type 0) (a : Answer A) (f : A → Answer B) → Refuses Q a → ((v : A) → a ≡ value v → Refuses Q (f v)) → Refuses Q (andThen a f)

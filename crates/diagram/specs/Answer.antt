@@ -1,5 +1,6 @@
 -- What an operation answers. Assumes nothing.
 use Prim.Native.Nat.{ℕ, zero, suc}
+use mathlib.Core.Option.{Option, none, some}
 
 -- a value, or a refusal by its number and its place
 pub data Answer (A : Type 0) : Type 0 where
@@ -10,6 +11,11 @@ pub data Answer (A : Type 0) : Type 0 where
 unfoldable pub andThen : {A B : Type 0} → Answer A → (A → Answer B) → Answer B
 andThen (value a) f = f a
 andThen (refusal number place) f = refusal number place
+
+-- what was found, or the refusal of this number, with place 0
+unfoldable pub orRefuse : {A : Type 0} → ℕ → Option A → Answer A
+orRefuse number none = refusal number 0
+orRefuse number (some a) = value a
 
 -- nothing is refused
 abbrev pub pass : Answer (Unit {0})

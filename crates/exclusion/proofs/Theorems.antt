@@ -6,18 +6,16 @@ use mathlib.Core.Bool.{Bool, true, false}
 use mathlib.Core.List.{List}
 use mathlib.Core.Option.{none, some}
 use native.Mathlib.Omega.{arith}
-use lib.Dec.{leb}
-use borrow.Author.Tests.{leb-false}
 use Rattle.words.specs.Words.{wordAt}
-use Rattle.words.proofs.Cases.{passed}
 use Rattle.diagram.specs.Format.{Words, settings, nodes}
 use Rattle.diagram.specs.Meaning.{permitted}
 use Rattle.diagram.specs.Count.{total}
 use Rattle.diagram.specs.Answer.{Answer, value, refusal, andThen}
-use Rattle.diagram.proofs.AnswerLaws.{refused-not, value-inj, then-some, then-refused}
+use Rattle.diagram.proofs.AnswerLaws.{value-inj, then-some, then-refused}
 use Rattle.diagram.proofs.Refusals.{passes, then-refuses}
 use Rattle.checking.specs.Operations.{checking, testSetup, testing, blank}
 use Rattle.checking.specs.Sheets.{HandedBack}
+use Rattle.checking.proofs.Answering.{test-is}
 use Rattle.checking.proofs.Bounds.{test-refuses}
 use Rattle.checking.proofs.Blank.{Late, hands-back}
 use Rattle.exclusion.specs.Finding.{isPermitted, ruledOut, Finding, finding, IsGiven}
@@ -45,11 +43,9 @@ module _ (t s : List ℕ) (x : ℕ) where
       go (refusal number place) = refl
 
   -- what the test answers
-  test-is : (b : Bool) → testing t x s ≡ value b → (x < 2 ^ n) × (P x ≡ b)
-  unfolding testing testSetup
-  test-is b e =
-      let q = passed (leb (2 ^ n) x) refused-not (then-some (checking t s) _ e .2) in
-      (leb-false (2 ^ n) x (q .0), value-inj (q .1))
+  tested-is : (b : Bool) → testing t x s ≡ value b → (x < 2 ^ n) × (P x ≡ b)
+  unfolding testing
+  tested-is b e = test-is n x P b (then-some (checking t s) _ e .2)
 
   -- where the test answers, what is found is answered, and only there
   finds : (b : Bool) → testing t x s ≡ value b → rulingOut t x s ≡ value (finding P n x)
@@ -59,7 +55,7 @@ module _ (t s : List ℕ) (x : ℕ) where
   found : (f : Finding) → rulingOut t x s ≡ value f → (testing t x s ≡ value (P x)) × (x < 2 ^ n) × (finding P n x ≡ f)
   found f e =
       let a = then-some (testing t x s) (λ _. value (finding P n x)) (sym after-test ∙ e) in
-      let i = test-is (a .0) (a .1) in
+      let i = tested-is (a .0) (a .1) in
       (a .1 ∙ ap value (sym (i .1)), i .0, value-inj (a .2))
 
   -- it refuses what the test refuses, and nothing else: there is no 13
@@ -73,14 +69,14 @@ module _ (t s : List ℕ) (x : ℕ) where
   pub permitted-alike : (rulingOut t x s ≡ value isPermitted) ↔ (testing t x s ≡ value true)
   permitted-alike = (
     λ e. (let f = found isPermitted e in f .0 ∙ ap value (ruled.permitted-if P n x (f .1) (f .2))),
-    λ e. (let i = test-is true e in finds true e ∙ ap value (finds-permitted P n x (i .0) (i .1))),
+    λ e. (let i = tested-is true e in finds true e ∙ ap value (finds-permitted P n x (i .0) (i .1))),
   )
 
   -- of every setup that can be tested: p is 0 exactly where C is
   pub zero-where-empty : (b : Bool) → testing t x s ≡ value b → (rulingOut t x s ≡ value (ruledOut 0 none)) ↔ (total w ≡ 0)
   unfolding total
   zero-where-empty b e =
-      let exactly = ruled.zero-exactly P n x (test-is b e .0) in
+      let exactly = ruled.zero-exactly P n x (tested-is b e .0) in
       (λ r. exactly .0 (found (ruledOut 0 none) r .2), λ z. finds b e ∙ ap value (exactly .1 z))
 
   -- no setup is given only there
@@ -92,7 +88,7 @@ module _ (t s : List ℕ) (x : ℕ) where
   pub ruled-where-not : testing t x s ≡ value false → 0 < total w → (p : ℕ) × (y : ℕ) × (rulingOut t x s ≡ value (ruledOut p (some y))) × (1 ≤ p) × (p ≤ n)
   unfolding total
   ruled-where-not e l =
-      let i = test-is false e in
+      let i = tested-is false e in
       let r = ruled.ruled-between P n x (i .0) (i .1) l in
       (r .0, r .1, finds false e ∙ ap value (r .2), r .3, r .4)
 

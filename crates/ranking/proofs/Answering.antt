@@ -4,10 +4,10 @@ use mathlib.Core.Path.{_≡_, ap}
 use mathlib.Core.Bool.{Bool, true, false}
 use mathlib.Core.Option.{some}
 use Rattle.diagram.specs.Count.{countBelow, select}
-use Rattle.diagram.specs.Answer.{Answer, value, refusal, andThen}
+use Rattle.diagram.specs.Answer.{Answer, value, refusal, andThen, orRefuse}
 use Rattle.diagram.proofs.Select.{select-none}
 use Rattle.checking.specs.Operations.{testSetup}
-use Rattle.ranking.specs.Operations.{rankSetup, orTooHigh, unrankSetup}
+use Rattle.ranking.specs.Operations.{rankSetup, unrankSetup}
 
 -- a is the answer of the test
 module _ (n x : ℕ) (P : ℕ → Bool) (a : Answer Bool) (a-is : a ≡ testSetup x n P) where
@@ -25,9 +25,9 @@ module _ (n x : ℕ) (P : ℕ → Bool) (a : Answer Bool) (a-is : a ≡ testSetu
 
 module _ (n r : ℕ) (P : ℕ → Bool) where
   pub too-high : countBelow P (2 ^ n) ≤ r → refusal 14 0 ≡ unrankSetup r n P
-  unfolding unrankSetup orTooHigh
+  unfolding unrankSetup orRefuse
   too-high l = rw (select-none P (2 ^ n) r l)
 
   pub unranked-to : (x : ℕ) → select P (2 ^ n) r ≡ some x → value x ≡ unrankSetup r n P
-  unfolding unrankSetup orTooHigh
+  unfolding unrankSetup orRefuse
   unranked-to x q = rw q

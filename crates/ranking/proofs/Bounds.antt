@@ -3,7 +3,6 @@ use Prim.Native.Nat.{ℕ, _+_, _^_, _<_}
 use mathlib.Core.Path.{_≡_}
 use mathlib.Core.Bool.{Bool, true, false, cond}
 use mathlib.Core.List.{List}
-use mathlib.Core.Option.{Option, none, some}
 use native.Mathlib.Omega.{arith}
 use native.Mathlib.Nat.{lt-of-lt-of-le}
 use lib.Pow.{pow-mono}
@@ -13,12 +12,12 @@ use Rattle.diagram.specs.Meaning.{permitted}
 use Rattle.diagram.specs.Count.{countBelow, select}
 use Rattle.diagram.specs.Answer.{value, refusal}
 use Rattle.diagram.proofs.CountLaws.{count-le}
-use Rattle.diagram.proofs.Refusals.{Refuses, refuses, passes, then-refuses}
+use Rattle.diagram.proofs.Refusals.{Refuses, refuses, passes, or-refuses, then-refuses}
 use Rattle.checking.specs.Operations.{checking, testSetup, blank}
 use Rattle.checking.specs.Sheets.{HandedBack}
 use Rattle.checking.proofs.Bounds.{Low, checking-place, test-refuses, settings-fit}
 use Rattle.checking.proofs.Blank.{Late, hands-back}
-use Rattle.ranking.specs.Operations.{rankSetup, ranking, orTooHigh, unrankSetup, unranking}
+use Rattle.ranking.specs.Operations.{rankSetup, ranking, unrankSetup, unranking}
 use Rattle.ranking.proofs.Numbering.{HasRank, ranked-has, unranked-has}
 
 -- ranking refuses by 12 and 13, unranking by 14
@@ -31,12 +30,8 @@ rank-refuses Q q q′ x n P = then-refuses Q (testSetup x n P) _ (test-refuses Q
     either false r = refuses Q 13 0 q′
 
 pub unrank-refuses : (Q : ℕ → ℕ → Type 0) → Q 14 0 → (r n : ℕ) (P : ℕ → Bool) → Refuses Q (unrankSetup r n P)
-unfolding unrankSetup orTooHigh
-unrank-refuses Q q r n P = either (select P (2 ^ n) r)
-  where
-    either : (o : Option ℕ) → Refuses Q (orTooHigh o)
-    either none = refuses Q 14 0 q
-    either (some x) = passes Q x
+unfolding unrankSetup
+unrank-refuses Q q r n P = or-refuses Q 14 q (select P (2 ^ n) r)
 
 pub ranking-place : (t : List ℕ) (x : ℕ) (s : List ℕ) → Refuses Low (ranking t x s)
 unfolding ranking

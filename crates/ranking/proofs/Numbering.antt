@@ -3,23 +3,21 @@ use Prim.Native.Nat.{ℕ, _-_, _*_, _/_, _^_, _≤_, _<_}
 use mathlib.Core.Path.{_≡_, refl, ap, _∙_}
 use mathlib.Core.Bool.{Bool, true, false, cond}
 use mathlib.Core.List.{List}
-use mathlib.Core.Option.{Option, none, some}
 use native.Mathlib.Omega.{arith}
-use lib.Dec.{leb}
-use borrow.Author.Tests.{leb-false, lt-leb}
+use borrow.Author.Tests.{lt-leb}
 use Rattle.words.specs.Words.{wordAt}
-use Rattle.words.proofs.Cases.{passed}
 use Rattle.diagram.specs.Format.{settings}
 use Rattle.diagram.specs.Meaning.{permitted}
 use Rattle.diagram.specs.Count.{countBelow, select, total}
-use Rattle.diagram.specs.Answer.{value, refusal, andThen}
+use Rattle.diagram.specs.Answer.{value, refusal, andThen, orRefuse}
 use Rattle.diagram.proofs.CountLaws.{count-mono-lt}
-use Rattle.diagram.proofs.AnswerLaws.{refused-not, value-inj, then-some}
+use Rattle.diagram.proofs.AnswerLaws.{refused-not, value-inj, or-some, then-some}
 use Rattle.diagram.proofs.Select.{Selected, select-some, select-of, ranked}
 use Rattle.checking.specs.Operations.{checking, testSetup}
+use Rattle.checking.proofs.Answering.{test-is}
 use Rattle.descent.specs.Settings.{IsLeft}
 use Rattle.descent.proofs.Settings.{selected-left}
-use Rattle.ranking.specs.Operations.{rankSetup, ranking, orTooHigh, unrankSetup, unranking}
+use Rattle.ranking.specs.Operations.{rankSetup, ranking, unrankSetup, unranking}
 
 -- setup x has rank r in table t: it is below 2 ^ n, permitted, and exactly r smaller ones are
 abbrev pub HasRank : List ℕ → ℕ → ℕ → Type 0
@@ -27,11 +25,11 @@ HasRank t x r = Selected (permitted (wordAt t)) (2 ^ settings (wordAt t)) r x
 
 module _ (n : ℕ) (P : ℕ → Bool) (x r : ℕ) where
   rank-selects : rankSetup x n P ≡ value r → Selected P (2 ^ n) r x
-  unfolding rankSetup testSetup
+  unfolding rankSetup
   rank-selects e =
       let a = then-some (testSetup x n P) _ e in
-      let b = passed (leb (2 ^ n) x) refused-not (a .1) in
-      go (a .0) (value-inj (b .1)) (leb-false (2 ^ n) x (b .0)) (a .2)
+      let i = test-is n x P (a .0) (a .1) in
+      go (a .0) (i .1) (i .0) (a .2)
     where
       go : (b : Bool) → P x ≡ b → x < 2 ^ n → cond b (value (countBelow P x)) (refusal 13 0) ≡ value r → Selected P (2 ^ n) r x
       go true p l q = record { below = l; passes = p; rank = value-inj q }
@@ -42,15 +40,11 @@ module _ (n : ℕ) (P : ℕ → Bool) (x r : ℕ) where
   selects-rank s = rw (lt-leb (2 ^ n) x (s .below), s .passes) (ap value (s .rank))
 
   unrank-selects : unrankSetup r n P ≡ value x → Selected P (2 ^ n) r x
-  unfolding unrankSetup orTooHigh
-  unrank-selects e = go (select P (2 ^ n) r) refl e
-    where
-      go : (o : Option ℕ) → select P (2 ^ n) r ≡ o → orTooHigh o ≡ value x → Selected P (2 ^ n) r x
-      go none p q = absurd (refused-not q)
-      go (some y) p q = select-some P (2 ^ n) r x (p ∙ ap some (value-inj q))
+  unfolding unrankSetup
+  unrank-selects e = select-some P (2 ^ n) r x (or-some 14 (select P (2 ^ n) r) e)
 
   pub selects-unrank : Selected P (2 ^ n) r x → unrankSetup r n P ≡ value x
-  unfolding unrankSetup orTooHigh
+  unfolding unrankSetup orRefuse
   selects-unrank s = rw (select-of P (2 ^ n) r x s)
 
 -- what is ranked or unranked is permitted and has that rank

@@ -2,7 +2,7 @@
 use Prim.Native.Nat.{ℕ}
 use Rattle.diagram.specs.Answer.{Answer, refusal, pass}
 use Rattle.rules.specs.declared.Refusal.{Refusal}
-use Rattle.rules.specs.declared.Refusal.the-variants.{Length, Nodes, Root, Height, Order, Target, ThenFlag, EqualEdges, Unnamed, Sheet, Out, SetupRange, Unpermitted, RankRange, PartRange, TooManyNodes, ItemRange, Falls, ShortList, UnequalSettings, TooManyPairs}
+use Rattle.rules.specs.declared.Refusal.the-variants.{Length, Nodes, Root, Height, Order, Target, ThenFlag, EqualEdges, Unnamed, Sheet, Out, SetupRange, Unpermitted, RankRange, PartRange, TooManyNodes, ItemRange, Falls, ShortList, UnequalSettings, TooManyPairs, NonePermitted}
 use Rattle.rules.specs.declared.Verdict.{Verdict}
 use Rattle.rules.specs.declared.Verdict.the-variants.{Passed, Refused}
 
@@ -29,6 +29,7 @@ numberOf (Falls i) = 17
 numberOf ShortList = 18
 numberOf UnequalSettings = 19
 numberOf TooManyPairs = 20
+numberOf NonePermitted = 21
 
 -- its place: the record for 4 to 9, the item for 17 and for a list's 14, otherwise 0
 abbrev pub placeOf : Refusal → ℕ
@@ -53,6 +54,7 @@ placeOf (Falls i) = i .0
 placeOf ShortList = 0
 placeOf UnequalSettings = 0
 placeOf TooManyPairs = 0
+placeOf NonePermitted = 0
 
 -- some rules pass, or the first that does not
 abbrev pub verdictAs : Verdict → Answer (Unit {0})

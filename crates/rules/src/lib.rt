@@ -31,6 +31,7 @@ pub enum Refusal {
     ShortList,
     UnequalSettings,
     TooManyPairs,
+    NonePermitted,
 }
 
 // The number of a refusal.
@@ -59,6 +60,7 @@ pub fn number_of(refusal: Refusal) -> u64
         Refusal::ShortList => 18,
         Refusal::UnequalSettings => 19,
         Refusal::TooManyPairs => 20,
+        Refusal::NonePermitted => 21,
     }
 }
 
@@ -88,6 +90,7 @@ pub fn place_of(refusal: Refusal) -> usize
         Refusal::ShortList => 0,
         Refusal::UnequalSettings => 0,
         Refusal::TooManyPairs => 0,
+        Refusal::NonePermitted => 0,
     }
 }
 

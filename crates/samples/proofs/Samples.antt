@@ -6,11 +6,11 @@ use Rattle.diagram.specs.Format.{highField, middleField, lowField, settings, no
 use Rattle.diagram.specs.Meaning.{bit, branch, flip, holds, plain, under, permitted}
 use Rattle.diagram.specs.Count.{indicator, countBelow, select, someBelow, place, total}
 use Rattle.diagram.specs.Reading.{opposite}
-use Rattle.diagram.specs.Answer.{value, andThen, each}
+use Rattle.diagram.specs.Answer.{value, andThen, orRefuse, each}
 use Rattle.diagram.specs.Rules.{misled, checkRecord, names, named, checkNamed, wrongRoot, checkHeaderOf, checkRecords, checkNames, checkDiagram, check}
 use Rattle.diagram.proofs.Counts.{share-edge, share-sink}
 use Rattle.checking.specs.Operations.{checkingFor, counting, testSetup}
-use Rattle.ranking.specs.Operations.{rankSetup, ranking, orTooHigh, unrankSetup, unranking}
+use Rattle.ranking.specs.Operations.{rankSetup, ranking, unrankSetup, unranking}
 use Rattle.division.specs.Span.{size, start}
 use Rattle.division.specs.Operations.{noPart, spanOf, spanning}
 use Rattle.samples.specs.Samples.{table, A, A′, full, single, empty, members, setups, sheet, parts, All, samples}
@@ -25,6 +25,6 @@ unfolding full table sheet counting checkingFor settings nodes root wordAt beAt 
 full-count = ap value full-total
 
 pub samples-hold : All samples
-unfolding table A A′ full single empty members setups sheet parts All samples beAt wordAt bytesOf highField middleField lowField settings nodes root height thenEdge elseEdge bit branch flip holds plain under permitted indicator countBelow select someBelow place total andThen each misled checkRecord names named checkNamed wrongRoot checkHeaderOf checkRecords checkNames checkDiagram check checkingFor counting testSetup rankSetup ranking orTooHigh unrankSetup unranking size start noPart spanOf spanning
+unfolding table A A′ full single empty members setups sheet parts All samples beAt wordAt bytesOf highField middleField lowField settings nodes root height thenEdge elseEdge bit branch flip holds plain under permitted indicator countBelow select someBelow place total andThen each misled checkRecord names named checkNamed wrongRoot checkHeaderOf checkRecords checkNames checkDiagram check checkingFor counting testSetup rankSetup ranking orRefuse unrankSetup unranking size start noPart spanOf spanning
 samples-hold =
     (refl, (refl, (refl, (refl, (refl, (refl, (refl, (refl, (refl, (refl, (refl, (refl, (refl, (part-0 515 32 (lit≤ tt) (lit≤ tt), (part-1 515 40 (lit≤ tt) (lit≤ tt), (full-count, (refl, (refl, (refl, (refl, tt))))))))))))))))))))

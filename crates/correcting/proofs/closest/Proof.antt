@@ -1,0 +1,100 @@
+-- `correcting::closest` meets its contract: as every operation begins, `closest_setup` from the root edge, and a blank sheet. Assumes nothing.
+use Prim.Native.Nat.{_*_, _≤_}
+use mathlib.Core.Path.{_≡_, sym, subst}
+use native.Mathlib.Omega.{arith}
+use borrow.Author.Needs.{needs}
+use lib.ListN.{length, take}
+use lib.Seq.{length-take-le, length-front}
+use Rattle.checking.specs.Inner.{IsRefused, Begins}
+use Rattle.checking.proofs.Accepting.{handed-on, table-long, table-holds, table-reduced, root-inside, answered}
+use Rattle.checking.proofs.Lending.{begins-for, handed-back, places-left, blanked, lent-past}
+use Rattle.correcting.specs.Operations.{needed, closestSetup, correcting}
+use Rattle.correcting.proofs.closest.Statement.{statement}
+use Rattle.correcting.proofs.closest.Tie as tie
+
+refusal-of-requires : tie.Need-refusal-of-requires
+refusal-of-requires c κs = subst IsRefused (sym (c .enum-told2 .given .1)) tt
+
+-- how the operation began, with its places said as the paper has them
+begins : (c : tie.After-begin-with) → let a = c .before .before .before .before .args in Begins needed (a .table .now) (a .sheet .now) (c .begin-with .last .1 .0) (c .begin-with .result)
+begins c = begins-for needed (λ N. omega arith) (c .begin-with .ensures)
+
+returns : tie.Need-returns
+unfolding correcting
+returns c =
+    let told = c .before in
+    let B = begins (told .before .before .before .before) in
+    (handed-on B _ _ _ (c .refusal-of .ensures), handed-back B (told .enum-told2 .given .1))
+
+header-of-requires : tie.Need-header-of-requires
+header-of-requires c κs = table-long (c .before .before .before .before .begin-with .ensures) (c .enum-told .given .1)
+
+-- from where the header is read: how the operation began
+abbrev begun : tie.After-header-of → tie.After-begin-with
+begun c = c .before .before .before .before .before
+
+-- the table has few nodes, and the sheet the places that are needed
+sizes : (c : tie.After-header-of) → let N = c .header-of .result .nodes in (N ≤ 65535) × (8 * needed N ≤ length (begun c .begin-with .last .1 .0))
+sizes c =
+    let B = begins (begun c) in
+    let q = c .before .enum-told .given .1 in
+    (table-holds B q (c .header-of .ensures) .few, places-left B q (c .header-of .ensures .nodes-is))
+
+add-places : tie.Need-add-places
+add-places c = record { fits = omega (arith, sizes (c .before)) }
+
+mul-places : tie.Need-mul-places
+mul-places c = record { fits = omega (arith, sizes (c .before)) }
+
+mul-end : tie.Need-mul-end
+mul-end c = record { fits = omega (arith, sizes (c .before)) }
+
+slice-relend : tie.Need-slice-relend-prefix-closest-setup
+slice-relend c = sizes (c .before) .1
+
+-- the places lent
+lent-long : (c : tie.After-header-of) → let m = 8 * needed (c .header-of .result .nodes) in length (take m (begun c .begin-with .last .1 .0)) ≡ m
+lent-long c = length-take-le _ _ (sizes c .1)
+
+slice-aggregate : tie.Need-slice-aggregate-closest-setup
+slice-aggregate c = sym (lent-long (c .before .before))
+
+closest-setup-requires : tie.Need-closest-setup-requires
+closest-setup-requires c κs =
+    let a = c .before .before in
+    let B = begins (begun a) in
+    let q = a .before .enum-told .given .1 in
+    let h = a .header-of .ensures in
+    let l = lent-long a in
+    (record { holds = table-holds B q h; reduced = table-reduced B q h; inside = root-inside B q h; room = omega arith }, omega arith)
+
+-- from what is found: where the header is read
+abbrev read : tie.After-closest-setup → tie.After-header-of
+read c = c .before .before .before
+
+blank-requires : tie.Need-blank-requires
+blank-requires c κs =
+    let inner = c .before .before .before in
+    let a = read inner in
+    let w = inner .closest-setup in
+    omega (arith, sizes a .1, length-front (begun a .begin-with .last .1 .0) (w .last .1 .0) (8 * needed (a .header-of .result .nodes)) (w .kept .1 .0))
+
+returns-2 : tie.Need-returns-2
+unfolding correcting
+returns-2 c =
+    let blank = c .before .before in
+    let inner = blank .before .before .before .before in
+    let a = read inner in
+    let B = begins (begun a) in
+    let q = a .before .enum-told .given .1 in
+    let h = a .header-of .ensures in
+    let w = inner .closest-setup in (
+      answered B q h (closestSetup _) _ (w .ensures),
+      blanked B q (h .nodes-is) _ _ (lent-past _ _ (w .last .1 .0) (sizes a .1) (w .kept .1 .0)) (blank .blank .ensures),
+    )
+
+pub closest-spec : {M : Type 1} → statement M
+closest-spec =
+    tie.close
+    (tie.spec (λ c κs. search needs) (λ c. search needs) (λ c. search needs) refusal-of-requires (λ c. search needs) returns
+    header-of-requires add-places mul-places mul-end slice-relend slice-aggregate closest-setup-requires blank-requires (λ c. search needs) returns-2)
