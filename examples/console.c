@@ -9,6 +9,8 @@
  *     why DIGITS      prints the first settings of the setup with these binary digits by which it is
  *                     ruled out, and the smallest permitted setup that agrees in all but the last of
  *                     them; or `permitted`, or `nothing is permitted`
+ *     closest DIGITS  prints the permitted setup that differs from the one with these binary digits in
+ *                     the fewest settings, and in how many it differs
  *     parts K         writes the K parts of the table to FOLDER (or here), as part0.table,
  *                     part1.table, ..., reads them back and lists the first setups of each: its
  *                     rank in the part, its digits and its rank in the whole table
@@ -47,6 +49,11 @@ static uint8_t *allocate(size_t len)
     return malloc(len > 0 ? len : 1);
 }
 
+static size_t longer(size_t a, size_t b)
+{
+    return a > b ? a : b;
+}
+
 /* The length of a file, or -1. A directory may claim LONG_MAX. */
 static long length_of(FILE *file)
 {
@@ -64,7 +71,8 @@ static int read_book(struct book *book, const char *path)
     if (len >= 0) {
         book->table_len = (size_t)len;
         book->table = allocate(book->table_len);
-        book->sheet_len = setupbook_sheet_len(book->table_len);
+        book->sheet_len = longer(setupbook_sheet_len(book->table_len),
+                                 setupbook_closest_sheet_len(book->table_len));
         book->sheet = allocate(book->sheet_len);
         done = book->table != NULL && book->sheet != NULL
             && fread(book->table, 1, book->table_len, file) == book->table_len;
@@ -212,6 +220,19 @@ static void answer_why(const struct book *book, uint64_t setup)
         print_setup(setup >> (n - p), p);
         putchar(' ');
         print_line(book, answer[2]);
+    }
+}
+
+static void answer_closest(const struct book *book, uint64_t setup)
+{
+    uint64_t answer[3];
+    uint64_t refusal = setupbook_closest(book->table, book->table_len, setup,
+                                         book->sheet, book->sheet_len, answer);
+    if (refusal != 0)
+        print_refused(refusal, answer[0]);
+    else {
+        print_setup(answer[0], settings(book));
+        printf(" %" PRIu64 "\n", answer[1]);
     }
 }
 
@@ -407,6 +428,10 @@ static void answer_line(const struct book *book, const char *folder, const char 
         answer_why(book, given);
     else if (strcmp(line, "why -") == 0 && settings(book) == 0)
         answer_why(book, 0);
+    else if (strncmp(line, "closest ", 8) == 0 && parse(line + 8, 2, &given))
+        answer_closest(book, given);
+    else if (strcmp(line, "closest -") == 0 && settings(book) == 0)
+        answer_closest(book, 0);
     else if (strncmp(line, "parts ", 6) == 0 && parse(line + 6, 10, &given))
         answer_parts(book, given, folder);
     else if (strncmp(line, "join ", 5) == 0)

@@ -1,7 +1,7 @@
 /*
  * The setup book: rank, unrank, also of a list, the setups by how many settings are on, the settings
- * that rule a setup out, part-write, two tables made into one, and a loose table made proper, over
- * reduced OBDDs with complement edges.
+ * that rule a setup out, the closest permitted setup, part-write, two tables made into one, and a loose
+ * table made proper, over reduced OBDDs with complement edges.
  *
  * A table is a decision diagram over n settings (0 to 63) with N nodes (0 to 65,535) as a row of
  * N + 1 words of 64 bits, most significant byte first; docs/FORMAT.md has the fields. It permits
@@ -34,7 +34,8 @@
  *
  * Memory: `table` has table_len bytes and is only read, and so is the list `ranks`. `sheet` is a
  * work sheet of sheet_len bytes: 8 * (N + 1) are needed, as many as an accepted table has, for
- * part-write 8 * (N + 512), for count-on 512 * (N + 1), and for a loose table 8 * (8 * N + 512).
+ * part-write 8 * (N + 512), for closest 16 * (N + 1), for count-on 512 * (N + 1), and for a loose
+ * table 8 * (8 * N + 512).
  * `out` receives the part or the result: 8 * (N' + 1) of its out_len bytes are needed. `pairs` is
  * the pair sheet: 32 bytes a pair are needed. `setups` receives a list of as many items as `ranks`
  * has. These memories share no byte, but two tables may be the same one or overlap, and nobody else
@@ -43,9 +44,9 @@
  * nothing, keeps nothing and takes about 70 KiB of stack, count-on 81.
  *
  * Sheet afterwards: unchanged by refusals 1 to 8, and 10. After everything else, a result or a
- * refusal, the words that the call requires are zero: N + 1, N + 512 for part-write, 64 * (N + 1) for
- * count-on, and 8 * N + 512 for a loose table. All other bytes are unchanged. No call depends on what
- * the sheet held before.
+ * refusal, the words that the call requires are zero: N + 1, N + 512 for part-write, 2 * (N + 1) for
+ * closest, 64 * (N + 1) for count-on, and 8 * N + 512 for a loose table. All other bytes are unchanged.
+ * No call depends on what the sheet held before.
  * With two tables each sheet is as its own table's check leaves it, so sheet1 is zero where table2
  * is refused, and sheet2 is unchanged where table1 is. `pairs` is unchanged by a table's refusal and
  * by 19; after everything else all its pairs_len / 8 words are zero, and up to seven bytes behind
@@ -65,8 +66,8 @@
  *      2  N is above 65,535
  *      1  table_len is not 8 * (N + 1)
  *      3  the root edge does not lead to node N; of a loose table: it leads to a node above N
- *     10  sheet_len is under 8 * (N + 1), for part-write under 8 * (N + 512), for count-on under
- *         512 * (N + 1), for a loose table under 8 * (8 * N + 512)
+ *     10  sheet_len is under 8 * (N + 1), for part-write under 8 * (N + 512), for closest under
+ *         16 * (N + 1), for count-on under 512 * (N + 1), for a loose table under 8 * (8 * N + 512)
  *         then for record 1, record 2, ... to N:
  *      4    its height is 0 or above n
  *      6    an edge leads to a node not below k, or to a height not below its own; of a loose table:
@@ -75,8 +76,9 @@
  *      7    its then-edge is complemented (*)
  *      8    its two edges are equal (*)
  *      9  no record has an edge to record k, which is below N; the lowest such k (*)
- *     12  rank, ruled out: the setup is 2^n or more
+ *     12  rank, ruled out, closest: the setup is 2^n or more
  *     13  rank: the setup is not permitted
+ *     21  closest: no setup is permitted
  *     18  unrank a list: `setups` has fewer items than `ranks`
  *     17  unrank a list: a rank is below the one before it; the first such item
  *     14  unrank: the rank is C or more; of a list, the first such item
@@ -116,6 +118,12 @@ uint64_t setupbook_count_on(const uint8_t *table, size_t table_len, uint64_t m,
  * one that agrees in the first p - 1. Refusals 1 to 10, 12. */
 uint64_t setupbook_ruled_out(const uint8_t *table, size_t table_len, uint64_t setup,
                              uint8_t *sheet, size_t sheet_len, uint64_t answer[3]);
+
+/* The permitted setup that differs from a setup in the fewest settings, the smallest of several, in
+ * answer[0], and that number in answer[1]: the setup itself and 0 if it is permitted. Refusals 1 to
+ * 10, 12, 21. */
+uint64_t setupbook_closest(const uint8_t *table, size_t table_len, uint64_t setup,
+                           uint8_t *sheet, size_t sheet_len, uint64_t answer[3]);
 
 /* The setups of a list of ranks that never fall, of any length, each as setupbook_unrank gives it.
  * answer[0] is how many. Refusals 1 to 10, 18, 17, 14. */
@@ -162,11 +170,17 @@ uint64_t setupbook_make_proper(const uint8_t *table, size_t table_len,
 /* The length of the longest table, N = 65,535: out memory that is never too short. */
 #define SETUPBOOK_LONGEST 524288
 
-/* The sheet that serves an accepted table of this length in every call but setupbook_count_on and
- * setupbook_make_proper: N + 512 words. */
+/* The sheet that serves an accepted table of this length in every call but setupbook_closest,
+ * setupbook_count_on and setupbook_make_proper: N + 512 words. */
 static inline size_t setupbook_sheet_len(size_t table_len)
 {
     return table_len + 4088;
+}
+
+/* The sheet that serves an accepted table of this length in setupbook_closest: 2 * (N + 1) words. */
+static inline size_t setupbook_closest_sheet_len(size_t table_len)
+{
+    return 2 * table_len;
 }
 
 /* The sheet that serves an accepted table of this length in setupbook_count_on: 64 * (N + 1) words. */

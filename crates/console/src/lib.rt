@@ -10,10 +10,12 @@ ghost use Rattle.lists.specs.Operations.{items, unrankingList, setupsAfter};
 ghost use Rattle.tables.specs.Writing.{lengthOf};
 ghost use Rattle.parts.specs.Operations.{partWriting, Promise};
 ghost use Rattle.weighing.specs.Operations.{needed, countingOn};
+ghost use Rattle.correcting.specs.Operations as correcting;
+ghost use Rattle.correcting.specs.Operations.{correcting};
 ghost use Rattle.tightening.specs.Operations as tightening;
 ghost use Rattle.tightening.specs.Operations.{makingProper};
 ghost use Rattle.naming.specs.declared.Operation.the-variants.{Joined, Shared, Without};
-ghost use Rattle.telling.specs.Told.{single, foundWords, returned, told};
+ghost use Rattle.telling.specs.Told.{single, double, foundWords, returned, told};
 ghost use Rattle.console.specs.Combines.{Combines};
 use diagram::Rank;
 use diagram::Setup;
@@ -79,6 +81,22 @@ pub extern "C" fn setupbook_ruled_out(
 {
     let found = exclusion::ruled_out(table, Setup(setup), sheet);
     telling::tell_found(found, answer)
+}
+
+// The permitted setup closest to another, and in how many settings it differs.
+#[no_mangle]
+pub extern "C" fn setupbook_closest(
+    table: &[u8],
+    setup: u64,
+    sheet: &mut [u8],
+    answer: &mut [u64; 3],
+) -> u64
+    ensures { λ r. ⌜ (r ≡ returned (correcting (now (table .entry)) setup (now (sheet .entry))))
+        × (now (answer .exit) ≡ told double (correcting (now (table .entry)) setup (now (sheet .entry))))
+        × (now (sheet .exit) ≡ blankFor correcting.needed (now (table .entry)) (now (sheet .entry))) ⌝ }
+{
+    let corrected = correcting::closest(table, Setup(setup), sheet);
+    telling::tell_corrected(corrected, answer)
 }
 
 // The setups of a list of ranks: how many.

@@ -11,6 +11,7 @@ use Rattle.words.proofs.Cases.{both-true, fails}
 use Rattle.diagram.specs.Count.{smallest, someBelow}
 use Rattle.diagram.specs.Answer.{value, refusal, andThen, orRefuse}
 use Rattle.diagram.proofs.AnswerLaws.{refused-not, value-inj, or-some, then-some, some-at, some-found}
+use Rattle.diagram.proofs.Refusals.{Refuses, passes, or-refuses, then-refuses}
 use Rattle.diagram.proofs.Digits.{fits}
 use Rattle.diagram.proofs.Select.{Least, smallest-is, smallest-least, smallest-none, none-smallest}
 use Rattle.distances.specs.Distance.{distance}
@@ -108,3 +109,9 @@ module _ (P : ℕ → Bool) (n x : ℕ) where
         none-closer = λ z i p. N .nearest z (all z i) p;
         least = λ z i p q. N .least z (all z i) p q;
       }
+
+-- it refuses by 21 only
+pub closest-refuses : (Q : ℕ → ℕ → Type 0) → Q 21 0 → (P : ℕ → Bool) (n x : ℕ) → Refuses Q (closest P n x)
+unfolding closest
+closest-refuses Q q P n x =
+    then-refuses Q (orRefuse 21 (fewest P n x)) _ (or-refuses Q 21 q (fewest P n x)) (λ d _. then-refuses Q (orRefuse 21 (closestAt P n x d)) _ (or-refuses Q 21 q (closestAt P n x d)) (λ y _. passes {A = ℕ × ℕ} Q (y, d)))

@@ -8,6 +8,7 @@ pub mod Sheets
 pub mod Settings
 pub mod EdgeFirst
 pub mod Weighing
+pub mod Correcting
 pub mod Exclusion
 pub mod Loose
 pub mod EqualFiles

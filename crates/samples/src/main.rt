@@ -4,6 +4,7 @@ use checking::Counted;
 use checking::Shape;
 use checking::Tested;
 use combining::Combined;
+use correcting::Corrected;
 use diagram::Rank;
 use diagram::Setup;
 use division::Spanned;
@@ -217,6 +218,24 @@ fn counted_on(name: &[u8], table: &[u8], m: u64, lent: usize) {
     match counted {
         Counted::Total(c) => say_number(b" ", c),
         Counted::Refused(r) => say_refusal(b" ", r),
+    }
+    say(b"\n");
+}
+
+// The permitted setup closest to another, in a table of four words at most, with so many bytes of sheet, 64 at most.
+fn closest_to(name: &[u8], table: &[u8], x: u64, lent: usize) {
+    say(name);
+    say_number(b", closest to ", x);
+    say(b":");
+    let mut memory = [0u8; 64];
+    let sheet = tables::front(&mut memory, lent);
+    let corrected = correcting::closest(table, Setup(x), &mut sheet[..]);
+    match corrected {
+        Corrected::To(c) => {
+            say_number(b" ", c.setup.0);
+            say_number(b", settings that differ: ", c.distance);
+        }
+        Corrected::Refused(r) => say_refusal(b" ", r),
     }
     say(b"\n");
 }
@@ -438,6 +457,20 @@ fn settings_on() {
     counted_on(b"FC00000000000000", &all[0..8], 31, 512);
 }
 
+fn closest_setups() {
+    let a = bytes_of(&A);
+    closest_to(b"A", &a, 5, 64);
+    closest_to(b"A", &a, 4, 64);
+    closest_to(b"A", &a, 6, 64);
+    closest_to(b"A", &a, 8, 64);
+    closest_to(b"A, 63 bytes", &a, 5, 63);
+    let flagged = bytes_of(&[0x0C00000060000007, A[1], A[2], A[3]]);
+    closest_to(b"A with header 0C00000060000007", &flagged, 0, 64);
+    let empty = bytes_of(&[0x0C00000000000001]);
+    closest_to(b"0C00000000000001", &empty[0..8], 5, 16);
+    closest_to(b"0C00000000000001", &empty[0..8], 8, 16);
+}
+
 fn setups_ruled_out() {
     let a = bytes_of(&A);
     ruled_out(b"A", &a, 5);
@@ -534,6 +567,7 @@ fn main() {
     sheet_too_short();
     numbers();
     settings_on();
+    closest_setups();
     setups_ruled_out();
     lists_of_numbers();
     divisions();

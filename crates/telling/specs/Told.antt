@@ -9,6 +9,10 @@ use Rattle.exclusion.specs.Finding.{Finding, isPermitted, ruledOut}
 abbrev pub single : ℕ → List ℕ
 single v = v ∷ 0 ∷ 0 ∷ []
 
+-- ... of which the first two are
+abbrev pub double : ℕ × ℕ → List ℕ
+double (a, b) = a ∷ b ∷ 0 ∷ []
+
 -- what was found of a setup: 0 if it is permitted, 1 if no setup is given, or 2, p and the setup given
 unfoldable pub foundWords : Finding → List ℕ
 foundWords isPermitted = single 0

@@ -3,12 +3,14 @@ ghost use mathlib.Core.Path.{_≡_};
 ghost use mathlib.Core.List.{[], _∷_};
 ghost use Rattle.rules.specs.Refusals.{numberOf, placeOf};
 ghost use Rattle.checking.specs.Answers.{countedAs};
+ghost use Rattle.correcting.specs.Answers.{correctedAs};
 ghost use Rattle.exclusion.specs.Answers.{foundAs};
 ghost use Rattle.tables.specs.Answers.{writtenAs};
 ghost use Rattle.combining.specs.Answers.{combinedAs};
-ghost use Rattle.telling.specs.Told.{single, foundWords, returned, told, toldOf};
+ghost use Rattle.telling.specs.Told.{single, double, foundWords, returned, told, toldOf};
 use checking::Counted;
 use combining::Combined;
+use correcting::Corrected;
 use exclusion::RuledOut;
 use rules::Refusal;
 use tables::Written;
@@ -48,6 +50,16 @@ pub fn tell_found(found: RuledOut, answer: &mut [u64; 3]) -> u64
         RuledOut::Empty => tell(1, 0, 0, answer),
         RuledOut::By(by) => tell(2, by.settings, by.given.0, answer),
         RuledOut::Refused(r) => tell_refusal(r, 0, answer),
+    }
+}
+
+// Tells the closest setup, and in how many settings it differs.
+pub fn tell_corrected(corrected: Corrected, answer: &mut [u64; 3]) -> u64
+    ensures { λ r. ⌜ (r ≡ returned (correctedAs corrected)) × (now (answer .exit) ≡ told double (correctedAs corrected)) ⌝ }
+{
+    match corrected {
+        Corrected::To(c) => tell(c.setup.0, c.distance, 0, answer),
+        Corrected::Refused(r) => tell_refusal(r, 0, answer),
     }
 }
 
