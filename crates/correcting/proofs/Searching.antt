@@ -1,7 +1,7 @@
 -- What the search for the closest setup comes to, over any test. Assumes nothing.
-use Prim.Native.Nat.{ℕ, _+_, _/_, _^_, _≤_, _<_}
+use Prim.Native.Nat.{ℕ, _+_, _/_, _^_, _<_}
 use mathlib.Core.Path.{_≡_, refl, sym, ap, subst, _∙_}
-use mathlib.Core.Bool.{Bool, true, false, _&&_, true≢false}
+use mathlib.Core.Bool.{Bool, true, false, true≢false}
 use mathlib.Core.Option.{Option, none, some}
 use native.Mathlib.Nat.{div-eq-of-lt, le-refl}
 use native.Mathlib.Omega.{arith}
@@ -13,7 +13,7 @@ use Rattle.diagram.specs.Answer.{value, refusal, andThen, orRefuse}
 use Rattle.diagram.proofs.AnswerLaws.{refused-not, value-inj, or-some, then-some, some-at, some-found}
 use Rattle.diagram.proofs.Refusals.{Refuses, passes, or-refuses, then-refuses}
 use Rattle.diagram.proofs.Digits.{fits}
-use Rattle.diagram.proofs.Select.{Least, smallest-is, smallest-least, smallest-none, none-smallest}
+use Rattle.diagram.proofs.Select.{smallest-is, smallest-least, smallest-none, none-smallest}
 use Rattle.distances.specs.Distance.{distance}
 use Rattle.distances.specs.Inner.{Nearest}
 use Rattle.distances.proofs.Distances.{dist-le}

@@ -43,7 +43,14 @@ fn nearest_under(table: &[u8], sheet: &mut [u8], n: u64, nodes: usize, e: Edge, 
 }
 
 // The closest setup to x of those of n settings that edge e permits, or rule 12, or rule 21. The sheet has two places for each node.
-fn closest_setup(table: &[u8], sheet: &mut [u8], n: u64, nodes: usize, e: Edge, x: Setup) -> Corrected
+fn closest_setup(
+    table: &[u8],
+    sheet: &mut [u8],
+    n: u64,
+    nodes: usize,
+    e: Edge,
+    x: Setup,
+) -> Corrected
     requires { ⌜ Countable (now table) (now sheet) n nodes (e .value) × (8 * needed nodes ≤ length (now sheet)) ⌝ }
     ensures { λ r. ⌜ correctedAs r ≡ closestSetup (x .0) n (under (wordAt (now (table .entry))) (e .value)) ⌝ }
 {

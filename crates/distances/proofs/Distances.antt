@@ -3,11 +3,10 @@ use Prim.Native.Nat.{ℕ, zero, suc, _+_, _-_, _*_, _/_, _%_, _^_, _≤_, _<_}
 use mathlib.Core.Path.{_≡_, refl, sym, ap, ap₂, subst, _∙_}
 use mathlib.Core.Bool.{Bool, true, false, xor}
 use native.Mathlib.Omega.{arith}
-use native.Mathlib.Nat.{mod-lt, mod-eq-of-lt}
+use native.Mathlib.Nat.{mod-lt}
 use lib.Dec.{eqb}
 use lib.Pow.{pow-pos, split, mod-pow-add}
 use lib.Bits.{bitXor, xor-shr, xor-mod}
-use lib.Bits as bits
 use lib.Count.{ones, onesIn, ones-cat}
 use borrow.Author.Tests.{eqb-true, eqb-false}
 use Rattle.words.proofs.Cases.{less, same, more, tri}
@@ -45,16 +44,16 @@ dist-mono g (suc h) x y l = elim (tri g (suc h)) [
 ]
 
 -- a setting does not differ from itself
-none : (b : Bool) → indicator (xor b b) ≡ 0
+pub kept : (b : Bool) → indicator (xor b b) ≡ 0
 unfolding indicator xor
-none true = refl
-none false = refl
+kept true = refl
+kept false = refl
 
 -- nor does a setup
 pub dist-self : (h x : ℕ) → distance h x x ≡ 0
 unfolding distance
 dist-self zero x = refl
-dist-self (suc h) x = omega (arith, dist-self h x, none (bit (suc h) x))
+dist-self (suc h) x = omega (arith, dist-self h x, kept (bit (suc h) x))
 
 -- settings before the last h do not matter
 dist-mod : (h H x y : ℕ) → h ≤ H → distance h (x % 2 ^ H) (y % 2 ^ H) ≡ distance h x y
@@ -101,7 +100,7 @@ dist-begins g (suc h) x y l q = elim (tri g (suc h)) [
   | less i ↦ (
       let d : suc h - 1 ≡ h = omega arith in
       let b : bit (suc h) y ≡ bit (suc h) x = rw d (ap (λ (v : ℕ). eqb (v % 2) 1) (above g h x y (omega arith) q)) in
-      rw (b, none (bit (suc h) x), dist-begins g h x y (omega arith) q) (omega arith))
+      rw (b, kept (bit (suc h) x), dist-begins g h x y (omega arith) q) (omega arith))
   | same i ↦ rw i
   | more i ↦ absurd (omega arith)
 ]

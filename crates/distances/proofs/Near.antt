@@ -1,5 +1,5 @@
 -- The nearest number that passes a test, by its settings one after the other. Assumes nothing.
-use Prim.Native.Nat.{ℕ, zero, suc, _+_, _-_, _/_, _%_, _^_, _≤_, _<_}
+use Prim.Native.Nat.{ℕ, zero, suc, _+_, _-_, _/_, _^_, _≤_, _<_}
 use mathlib.Core.Path.{_≡_, refl, sym, ap, subst, _∙_}
 use mathlib.Core.Logic.{_⊎_, inl, inr}
 use mathlib.Core.Bool.{Bool, true, false, not, xor, true≢false, Bool·not-not}
@@ -11,7 +11,7 @@ use Rattle.diagram.proofs.Digits.{above}
 use Rattle.distances.specs.Distance.{distance}
 use Rattle.distances.specs.Inner.{setAt, joined, LooksAt, Apart, Reached, Nearest, Chosen}
 use Rattle.distances.proofs.Settings.{set-ends, set-bit, set-begins, begins-set, set-same, set-own, off-before, ends-less, joined-begins, joined-ends}
-use Rattle.distances.proofs.Distances.{dist-step, dist-mono, dist-self, dist-ends, dist-begins, dist-zero, dist-same}
+use Rattle.distances.proofs.Distances.{kept, dist-step, dist-mono, dist-self, dist-ends, dist-begins, dist-zero, dist-same}
 
 -- what passes is nearest to itself
 pub own-nearest : (P : ℕ → Bool) (h x : ℕ) → P x ≡ true → Nearest P h x x
@@ -94,12 +94,7 @@ module _ (P : ℕ → Bool) (h x : ℕ) (some : 0 < h) (b : Bool) (Q : ℕ → B
 
 -- what it costs to keep a setting, and to turn it over
 keep-cost : (h x : ℕ) → cost h x (bit h x) ≡ 0
-unfolding indicator xor
-keep-cost h x = go (bit h x)
-  where
-    go : (b : Bool) → indicator (xor b b) ≡ 0
-    go true = refl
-    go false = refl
+keep-cost h x = kept (bit h x)
 
 turn-cost : (h x : ℕ) → cost h x (not (bit h x)) ≡ 1
 unfolding indicator xor

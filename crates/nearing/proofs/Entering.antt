@@ -1,8 +1,7 @@
 -- The distances are entered node by node, in the terms of the code. Assumes nothing.
 use Prim.Native.Nat.{ℕ, zero, suc, _+_, _-_, _*_, _/_, _%_, _≤_, _<_}
-use mathlib.Core.Path.{_≡_, refl, sym, ap, subst, _∙_}
-use mathlib.Core.Logic.{_≢_}
-use mathlib.Core.Bool.{Bool, true, false, cond}
+use mathlib.Core.Path.{_≡_, sym, ap, subst, _∙_}
+use mathlib.Core.Bool.{true, false}
 use mathlib.Core.List.{List}
 use native.Mathlib.Omega.{arith}
 use lib.ListN.{length, getD, set, length-set}
@@ -17,7 +16,7 @@ use Rattle.diagram.specs.Reading.{IsRecord, turn}
 use Rattle.diagram.proofs.Paths.{tall-node}
 use Rattle.distances.proofs.Distances.{indicator-le}
 use Rattle.distances.proofs.Looking.{edge-few}
-use Rattle.walking.specs.Inner.{Lies, Forks}
+use Rattle.walking.specs.Inner.{Forks}
 use Rattle.walking.proofs.Forking.{forks}
 use Rattle.nearing.specs.Inner.{lesser, HasBytes, IsFar, Filled, Next, Fillable}
 use Rattle.nearing.proofs.Far.{far-small, far-always, far-never, far-edge}

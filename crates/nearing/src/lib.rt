@@ -1,7 +1,7 @@
 // The nearest setup under an edge, by distances in the sheet. Byte e is for edge e: in how many settings of its node the nearest setup that e permits differs from setup x; 64 for `never`, which permits none.
 // A free setting is kept, so a distance is the same at every height above its node.
 ghost use mathlib.Core.Path.{_≡_};
-ghost use Prim.Native.Nat.{_+_, _-_, _*_, _/_, _≤_, _<_};
+ghost use Prim.Native.Nat.{_+_, _-_, _/_, _≤_, _<_};
 ghost use lib.ListN.{set, getD, length};
 ghost use Rattle.words.specs.Words.{wordAt};
 ghost use Rattle.diagram.specs.Format.{height};

@@ -1,5 +1,5 @@
 -- The way of a setup that is not permitted, and the setups one setting off it, in the terms of the code. Assumes nothing.
-use Prim.Native.Nat.{ℕ, zero, suc, _+_, _-_, _/_, _%_, _^_, _≤_, _<_}
+use Prim.Native.Nat.{ℕ, zero, suc, _+_, _-_, _/_, _≤_}
 use mathlib.Core.Path.{_≡_, refl, sym, ap, subst, _∙_}
 use mathlib.Core.Logic.{_≢_}
 use mathlib.Core.Bool.{Bool, true, false, not, cond, true≢false}
@@ -14,7 +14,7 @@ use Rattle.diagram.specs.Reading.{Within}
 use Rattle.diagram.proofs.Paths.{under-always, under-never}
 use Rattle.walking.specs.Inner.{LiesIn, Forks}
 use Rattle.distances.specs.Distance.{distance}
-use Rattle.distances.specs.Inner.{setAt, LooksAt, Apart, Nearest, Chosen}
+use Rattle.distances.specs.Inner.{setAt, Apart, Nearest, Chosen}
 use Rattle.distances.proofs.Distances.{dist-begins}
 use Rattle.distances.proofs.Near.{nearest-up, apart-up, apart-one, apart-node, keep-nearest, turn-nearest, turn-dist}
 use Rattle.distances.proofs.Looking.{edge-looks, side-looks}

@@ -1,6 +1,5 @@
 -- `nearing::enter_edge` meets its contract: the lesser of the two costs. Assumes nothing.
-use Prim.Native.Nat.{ℕ}
-use mathlib.Core.Path.{_≡_, sym, ap, ap₂, _∙_}
+use mathlib.Core.Path.{_≡_, ap, ap₂, _∙_}
 use mathlib.Core.Logic.{inl, inr}
 use lib.ListN.{set}
 use borrow.Author.Needs.{needs}
@@ -14,7 +13,7 @@ returns c =
     let costs = c .before .before in
     let a = costs .before .before .before .args in
     let least : c .if1 .least ≡ lesser (costs .costs-of .result .off) (costs .costs-of .result .on) =
-        elim (c .if1 .came) [ inl s ↦ s .1 ∙ lesser-on _ _ (s .0 .taken) | inr s ↦ s .1 ∙ lesser-off _ _ (s .0 .left) ] in
+    elim (c .if1 .came) [ inl s ↦ s .1 ∙ lesser-on _ _ (s .0 .taken) | inr s ↦ s .1 ∙ lesser-off _ _ (s .0 .left) ] in
     ap (set (a .sheet .now) (a .e .value)) (least ∙ ap₂ lesser (costs .costs-of .ensures .0) (costs .costs-of .ensures .1))
 
 pub enter-edge-spec : {M : Type 1} → statement M

@@ -1,9 +1,6 @@
 -- `nearing::enter_node` meets its contract: both edges to the node, one after the other. Assumes nothing.
-use Prim.Native.Nat.{ℕ, _*_, _<_}
-use mathlib.Core.Path.{_≡_, refl, ap, _∙_}
+use mathlib.Core.Path.{refl}
 use native.Mathlib.Omega.{arith}
-use lib.ListN.{length, getD, length-set}
-use lib.Seq.{getD-set-other}
 use borrow.Author.Needs.{needs}
 use Rattle.diagram.specs.Count.{indicator}
 use Rattle.nearing.proofs.Entering.{node-low, edge-bytes, edge-far, kept-before, node-entered}

@@ -1,6 +1,6 @@
 -- `neighbours::beside` meets its contract. The loop's invariant: what is found from the edge reached on is nearest from the first one on. Assumes nothing.
 use Prim.Native.Nat.{_/_}
-use mathlib.Core.Path.{_≡_, ap, _∙_}
+use mathlib.Core.Path.{ap, _∙_}
 use mathlib.Core.Logic.{inl, inr}
 use mathlib.Core.Bool.{false, not}
 use native.Mathlib.Omega.{arith}
