@@ -7,7 +7,7 @@ use native.Mathlib.Nat.{le-refl}
 use native.Mathlib.Omega.{arith}
 use lib.Dec.{eqb}
 use lib.ListN.{length, take, drop}
-use lib.Seq.{length-take-le, drop-at}
+use lib.Seq.{length-take-le, length-front, drop-at}
 use Rattle.words.specs.Words.{wordAt, wordsBytes, wordsOver}
 use Rattle.words.proofs.Laws.{length-wordsBytes, over-over}
 use Rattle.diagram.specs.Format.{nodes}
@@ -78,6 +78,28 @@ module _ {need : ℕ → ℕ} {t s out : List ℕ} {a : Checked} (B : Begins nee
       inside = root-inside B q h;
       room = omega (arith, places-left (h .nodes-is));
     }
+
+-- the places needed, lent to the operation's inner function as memory of their own
+module _ {need : ℕ → ℕ} {t s out : List ℕ} {a : Checked} (B : Begins need t s out a) {shape : Shape} (q : a ≡ Table shape) {n N e : ℕ} (h : IsHeader (wordAt t) n N e) where
+  front-room : 8 * need N ≤ length out
+  front-room = places-left B q (h .nodes-is)
+
+  pub front-sizes : (N ≤ 65535) × (8 * need N ≤ length out)
+  front-sizes = (table-holds B q h .few, front-room)
+
+  pub front-long : length (take (8 * need N) out) ≡ 8 * need N
+  front-long = length-take-le (8 * need N) out front-room
+
+  pub front-countable : N + 1 ≤ need N → Countable t (take (8 * need N) out) n N e
+  front-countable some = record { holds = table-holds B q h; reduced = table-reduced B q h; inside = root-inside B q h; room = omega (arith, front-long) }
+
+  -- ... and handed back, of the same length
+  module _ (front : List ℕ) (same : length front ≡ length (take (8 * need N) out)) where
+    pub front-back : 8 * need N ≤ length (front ++ drop (8 * need N) out)
+    front-back = omega (arith, front-room, length-front out front (8 * need N) same)
+
+    pub front-blanked : (s″ : List ℕ) → s″ ≡ wordsOver (λ _. 0) (need N) (front ++ drop (8 * need N) out) → s″ ≡ blankFor need t s
+    front-blanked s″ z = blanked B q (h .nodes-is) (front ++ drop (8 * need N) out) s″ (lent-past (need N) out front front-room same) z
 
 -- counting: refused, its sheet is the blank one; otherwise the counts stand over the shares
 module _ {t s out : List ℕ} {a : Checked} (B : Begins (λ N. N + 1) t s out a) where

@@ -12,14 +12,10 @@ use borrow.Author.Tests.{eqb-true, eqb-false}
 use Rattle.words.proofs.Cases.{less, same, more, tri}
 use Rattle.diagram.specs.Meaning.{bit}
 use Rattle.diagram.specs.Count.{indicator}
+use Rattle.diagram.proofs.CountLaws.{indicator-le}
 use Rattle.diagram.proofs.Bits.{bit-mod}
 use Rattle.diagram.proofs.Digits.{above}
 use Rattle.distances.specs.Distance.{distance}
-
-pub indicator-le : (b : Bool) → indicator b ≤ 1
-unfolding indicator
-indicator-le true = omega arith
-indicator-le false = omega arith
 
 -- by the first of h settings
 pub dist-step : (h x y : ℕ) → 0 < h → distance h x y ≡ distance (h - 1) x y + indicator (xor (bit h x) (bit h y))

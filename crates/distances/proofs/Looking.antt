@@ -16,6 +16,7 @@ use Rattle.distances.proofs.Near.{looks-up}
 pub edge-looks : (t : List ℕ) (n e : ℕ) → Lies t n e → LooksAt (under (wordAt t) e) (height (wordAt t) (e / 2))
 edge-looks t n e L y z q = under-agree (wordAt t) n (L .nodes) (L .reduced .ordered) e (height (wordAt t) (e / 2)) y z (L .inside) (omega arith) q
 
+-- ... of which there are at most 63
 pub edge-few : (t : List ℕ) (n e : ℕ) → Lies t n e → height (wordAt t) (e / 2) ≤ 63
 edge-few t n e L = omega (arith, height-le-settings (wordAt t) n (L .nodes) (L .reduced .ordered) (e / 2) (L .inside), L .holds .few-settings)
 

@@ -10,6 +10,7 @@ use mir.Val.{boolByte}
 use borrow.Author.Tests.{eq-eqb, ne-eqb, eqb-true, eqb-false}
 use Rattle.diagram.specs.Meaning.{bit}
 use Rattle.diagram.specs.Count.{indicator}
+use Rattle.diagram.proofs.CountLaws.{indicator-le}
 use Rattle.diagram.proofs.Bits.{one-shl, bool-byte}
 use Rattle.diagram.proofs.Digits.{half, same-digit, fits}
 use Rattle.distances.specs.Inner.{setAt, joined}
@@ -98,11 +99,7 @@ bit-code h x = go (x / 2 ^ (h - 1)) (bit h x) refl
 
 module _ (b : Bool) (h x : ℕ) (some : 0 < h) (few : h ≤ 63) (small : x < 2 ^ 63) where
   pub before-fits : x / 2 ^ h * 2 + boolByte b < 18446744073709551616
-  before-fits = omega (arith, shr-le x h, bool-le b)
-    where
-      bool-le : (c : Bool) → boolByte c ≤ 1
-      bool-le true = omega arith
-      bool-le false = omega arith
+  before-fits = omega (arith, shr-le x h, bool-byte b, indicator-le b)
 
   all-fits : setAt b h x < 2 ^ 63
   all-fits = set-fits b h x some 63 few small

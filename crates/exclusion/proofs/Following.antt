@@ -8,10 +8,11 @@ use native.Mathlib.Omega.{arith}
 use lib.Dec.{eqb}
 use Rattle.words.specs.Words.{wordAt}
 use Rattle.diagram.specs.Format.{height}
-use Rattle.diagram.specs.Meaning.{bit, under}
+use Rattle.diagram.specs.Meaning.{bit}
 use Rattle.diagram.proofs.Paths.{height-le-settings}
 use Rattle.diagram.proofs.Digits.{above}
 use Rattle.walking.specs.Inner.{Lies, Forks}
+use Rattle.walking.proofs.Forking.{own-side}
 use Rattle.exclusion.specs.Inner.{Along, Follows, turnedAt}
 use Rattle.exclusion.proofs.Digits.{turned-bit, turned-above}
 
@@ -20,7 +21,7 @@ pub goes-on : {t : List ℕ} {n e h high low : ℕ} → Forks t n e h high low �
     → Along (wordAt t) from y (h - 1) (cond b high low)
 unfolding bit
 goes-on {t} {n} {e} {h} {high} {low} S from x g A l y q b p z r =
-    A z (above (h - 1) g y z (omega arith) r ∙ q) ∙ S .own z ∙ ap (λ (o : Bool). under (wordAt t) (cond o high low) z) (ap (λ (d : ℕ). eqb (d % 2) 1) r ∙ p)
+    A z (above (h - 1) g y z (omega arith) r ∙ q) ∙ own-side S b z (ap (λ (d : ℕ). eqb (d % 2) 1) r ∙ p)
 
 -- a way that has reached an edge of the diagram, below the last node passed
 pub record Reaches (t : List ℕ) (n from x e h other : ℕ) : Type 0 where

@@ -13,8 +13,8 @@ use Rattle.diagram.specs.Format.{Words}
 use Rattle.diagram.specs.Meaning.{bit}
 use Rattle.diagram.specs.Count.{indicator}
 use Rattle.diagram.specs.Reading.{IsRecord, turn}
+use Rattle.diagram.proofs.CountLaws.{indicator-le}
 use Rattle.diagram.proofs.Paths.{tall-node}
-use Rattle.distances.proofs.Distances.{indicator-le}
 use Rattle.distances.proofs.Looking.{edge-few}
 use Rattle.walking.specs.Inner.{Forks}
 use Rattle.walking.proofs.Forking.{forks}

@@ -12,11 +12,13 @@ use Rattle.words.proofs.Cases.{less, same, more, tri}
 use Rattle.diagram.specs.Format.{Words, height}
 use Rattle.diagram.specs.Meaning.{bit, under}
 use Rattle.diagram.specs.Count.{indicator}
+use Rattle.diagram.proofs.CountLaws.{indicator-le}
 use Rattle.diagram.proofs.Paths.{under-always, under-never}
 use Rattle.walking.specs.Inner.{Forks}
+use Rattle.walking.proofs.Forking.{own-side}
 use Rattle.distances.specs.Distance.{distance}
 use Rattle.distances.specs.Inner.{Apart, Reached}
-use Rattle.distances.proofs.Distances.{indicator-le, dist-le, dist-self}
+use Rattle.distances.proofs.Distances.{dist-le, dist-self}
 use Rattle.distances.proofs.Looking.{edge-looks, side-looks}
 use Rattle.distances.proofs.Near.{cost, apart-up, apart-sides, reached-up, reached-side}
 use Rattle.nearing.specs.Inner.{lesser, IsFar}
@@ -78,7 +80,7 @@ module _ (t : List ℕ) (n x e h high low : ℕ) (F : Forks t n e h high low) (o
   abbrev w : Words
   w = wordAt t
 
-  far-side : (b : Bool) → IsFar w x (cond b high low) (cond b on off)
+  pub far-side : (b : Bool) → IsFar w x (cond b high low) (cond b on off)
   far-side true = far-high
   far-side false = far-low
 
@@ -90,9 +92,6 @@ module _ (t : List ℕ) (n x e h high low : ℕ) (F : Forks t n e h high low) (o
   -- by its own settings up to the one before
   pub side-apart : (b : Bool) → Apart (under w (cond b high low)) (h - 1) x (cond b on off)
   side-apart b = apart-up (under w (cond b high low)) (height w (cond b high low / 2)) (h - 1) x (cond b on off) (omega (arith, F .lower b)) (far-side b .apart)
-
-  own-side : (b : Bool) (z : ℕ) → bit h z ≡ b → under w e z ≡ under w (cond b high low) z
-  own-side b z q = F .own z ∙ ap (λ (c : Bool). under w (cond c high low) z) q
 
   -- a side that costs no more than the other is not `never`
   pub cheaper : (b : Bool) → cond b on off + cost h x b ≤ cond (not b) on off + cost h x (not b) → cond b high low ≢ 1
@@ -120,7 +119,7 @@ module _ (t : List ℕ) (n x e h high low : ℕ) (F : Forks t n e h high low) (o
       let looks = edge-looks t n s (F .lies b) in
       let some = far-side b .reached (cheaper b (omega (arith, side-le (not b), side-cost b, q))) in
       subst (Reached (under w e) h x) (side-cost b ∙ sym q)
-      (reached-side (under w e) h x (F .tall) b (under w s) (own-side b) (side-looks F b) (cond b on off) (reached-up (under w s) (height w (s / 2)) (h - 1) x (cond b on off) (omega (arith, F .lower b)) looks some))
+      (reached-side (under w e) h x (F .tall) b (under w s) (own-side F b) (side-looks F b) (cond b on off) (reached-up (under w s) (height w (s / 2)) (h - 1) x (cond b on off) (omega (arith, F .lower b)) looks some))
 
   -- so the lesser cost is its distance
   pub far-edge : IsFar w x e d

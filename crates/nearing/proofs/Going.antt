@@ -15,6 +15,7 @@ use Rattle.diagram.specs.Count.{indicator}
 use Rattle.diagram.proofs.Paths.{under-always}
 use Rattle.diagram.proofs.Bits.{bit-mod}
 use Rattle.walking.specs.Inner.{LiesIn, Forks}
+use Rattle.walking.proofs.Forking.{own-side}
 use Rattle.distances.specs.Distance.{distance}
 use Rattle.distances.specs.Inner.{setAt, LooksAt, Nearest, Chosen}
 use Rattle.distances.proofs.Settings.{set-ends, set-fits, ends-less}
@@ -22,7 +23,7 @@ use Rattle.distances.proofs.Distances.{dist-ends}
 use Rattle.distances.proofs.Looking.{edge-looks, side-looks}
 use Rattle.distances.proofs.Near.{cost, chosen-le, chosen-mono, own-nearest, node-nearest, nearest-up, nearest-le, reached-up}
 use Rattle.nearing.specs.Inner.{IsFar, Filled, Opens}
-use Rattle.nearing.proofs.Far.{side-cost, side-apart, cheaper}
+use Rattle.nearing.proofs.Far.{far-side, side-cost, side-apart, cheaper}
 
 -- edge e is reached, and the settings before it are chosen in y: whatever is nearest to y from there on is nearest to x from the first edge on
 pub record Goes (t : List ℕ) (first x e y : ℕ) : Type 0 where
@@ -104,29 +105,22 @@ module _ (t s : List ℕ) (first x e y : ℕ) (K : Goes t first x e y) (G : Fill
     not-never : next ≢ 1
     not-never = cheaper t n x e h high low S (getD s high 0) (getD s low 0) was far-high far-low was-x b (chosen-le b _ _ chosen)
 
-    far-next : IsFar w x next (dist b)
-    far-next = go b
-      where
-        go : (c : Bool) → IsFar w x (cond c high low) (cond c (getD s high 0) (getD s low 0))
-        go true = far-high
-        go false = far-low
-
     -- the nearest from there on differs from y as much as the sheet says, or less
     as-far : (r : ℕ) → Nearest (under w next) (h - 1) v r → distance (h - 1) y r ≤ dist b
     as-far r N =
-        let R = reached-up (under w next) (height w (next / 2)) (h - 1) x (dist b) below looks (far-next .reached not-never) in
+        let R = reached-up (under w next) (height w (next / 2)) (h - 1) x (dist b) below looks (far-side t n x e h high low S (getD s high 0) (getD s low 0) was far-high far-low was-x b .reached not-never) in
         let l = nearest-le (under w next) (h - 1) v r (dist b) (side-looks S b) N (R .0, R .1, omega (arith, R .2, dist-ends (h - 1) v x (R .0) (R .0) v-ends refl)) in
         omega (arith, dist-ends (h - 1) v y r r (set-ends b h y (S .tall)) refl)
 
     on-side : (r : ℕ) → Nearest (under w next) (h - 1) v r → Nearest (under w e) h y r
     on-side r N =
-        node-nearest (under w e) h y (S .tall) b (under w next) (λ z q. S .own z ∙ ap (λ (c : Bool). under w (cond c high low) z) q) r N (dist (not b)) other
+        node-nearest (under w e) h y (S .tall) b (under w next) (own-side S b) r N (dist (not b)) other
         (chosen-mono b (distance (h - 1) y r + cost h y b) (dist b + cost h y b) (dist (not b) + cost h y (not b)) (omega (arith, as-far r N)) (rw same-bit chosen))
       where
         other : (z : ℕ) → bit h z ≡ not b → under w e z ≡ true → dist (not b) ≤ distance (h - 1) y z
         other z q p =
             omega
-            (arith, side-apart t n x e h high low S (getD s high 0) (getD s low 0) was far-high far-low was-x (not b) z (ap (λ (c : Bool). under w (cond c high low) z) (sym q) ∙ sym (S .own z) ∙ p), dist-ends (h - 1) y x z z (ends-less (h - 1) h y x (omega arith) ends) refl)
+            (arith, side-apart t n x e h high low S (getD s high 0) (getD s low 0) was far-high far-low was-x (not b) z (sym (own-side S (not b) z q) ∙ p), dist-ends (h - 1) y x z z (ends-less (h - 1) h y x (omega arith) ends) refl)
 
     pub goes-next : (next′ y′ : ℕ) → next′ ≡ next → y′ ≡ v → Goes t first x next′ y′
     goes-next next′ y′ next-is y-is = rw (next-is, y-is) record {

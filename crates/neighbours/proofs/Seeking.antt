@@ -19,7 +19,7 @@ use Rattle.distances.proofs.Distances.{dist-begins}
 use Rattle.distances.proofs.Near.{nearest-up, apart-up, apart-one, apart-node, keep-nearest, turn-nearest, turn-dist}
 use Rattle.distances.proofs.Looking.{edge-looks, side-looks}
 
--- the way of x is at edge e, which does not permit it. What is nearest from there on, one setting off, is nearest from the first edge on; if all is two or more off, so is `best`, unless it is x
+-- the way of x is at edge e, which does not permit it. What is nearest from there on, one setting off, is nearest from the first edge on; if all from there on is two or more off, `best` is, unless it is x
 pub record Seeks (t : List ℕ) (first x e best : ℕ) : Type 0 where
   pub lies : LiesIn t e
   pub out : under (wordAt t) e x ≡ false

@@ -9,7 +9,7 @@ use borrow.Author.Tests.{eq-eqb, ne-eqb}
 use Rattle.words.proofs.Cases.{less, same, more, tri, and-false}
 use Rattle.diagram.specs.Meaning.{bit}
 use Rattle.diagram.specs.Count.{indicator, countBelow}
-use Rattle.diagram.proofs.CountLaws.{count-cong, count-none, count-add}
+use Rattle.diagram.proofs.CountLaws.{indicator-le, count-cong, count-none, count-add}
 use Rattle.diagram.proofs.Bits.{bit-mod, bit-with, with-off, with-on}
 use Rattle.pascal.specs.Triangle.{binomial}
 use Rattle.pascal.specs.Ones.{ones, countOn, sum}
@@ -17,13 +17,9 @@ use Rattle.pascal.proofs.Pascal.{binomial-zero, binomial-past}
 
 -- at most all settings are on
 ones-le : (h x : ℕ) → ones h x ≤ h
-unfolding ones indicator
+unfolding ones
 ones-le zero x = omega arith
-ones-le (suc h) x = omega (arith, ones-le h x, one (bit (suc h) x))
-  where
-    one : (b : Bool) → indicator b ≤ 1
-    one true = omega arith
-    one false = omega arith
+ones-le (suc h) x = omega (arith, ones-le h x, indicator-le (bit (suc h) x))
 
 -- settings above the last h do not count
 ones-mod : (h H x : ℕ) → h ≤ H → ones h (x % 2 ^ H) ≡ ones h x

@@ -15,6 +15,10 @@ use Rattle.diagram.proofs.Paths.{tall-node, height-le-settings}
 use Rattle.diagram.proofs.Cofactor.{goes-on, cofactor-low, cofactor-own, cofactors-differ}
 use Rattle.walking.specs.Inner.{Lies, Forks}
 
+-- an edge permits what its side does, of setups that have the node's setting so
+pub own-side : {t : List ℕ} {n e h high low : ℕ} → Forks t n e h high low → (b : Bool) (z : ℕ) → bit h z ≡ b → under (wordAt t) e z ≡ under (wordAt t) (cond b high low) z
+own-side {t} {n} {e} {h} {high} {low} F b z q = F .own z ∙ ap (λ (c : Bool). under (wordAt t) (cond c high low) z) q
+
 -- edge e leads to node v
 module _ (t : List ℕ) (n e v : ℕ) (L : Lies t n e) (v-is : v ≡ e / 2) where
   abbrev w : Words

@@ -4,10 +4,9 @@ use mathlib.Core.Path.{_≡_, sym, ap, subst}
 use native.Mathlib.Omega.{arith}
 use borrow.Author.Needs.{needs}
 use lib.ListN.{length, take}
-use lib.Seq.{length-take-le, length-front}
 use Rattle.checking.specs.Inner.{IsRefused, Begins}
-use Rattle.checking.proofs.Accepting.{handed-on, table-long, table-holds, table-reduced, root-inside, answered}
-use Rattle.checking.proofs.Lending.{begins-for, handed-back, places-left, blanked, lent-past}
+use Rattle.checking.proofs.Accepting.{handed-on, table-long, answered}
+use Rattle.checking.proofs.Lending.{begins-for, handed-back, front-sizes, front-long, front-countable, front-back, front-blanked}
 use Rattle.diagram.specs.Answer.{value}
 use Rattle.pascal.specs.Ones.{countOn}
 use Rattle.weighing.specs.Operations.{needed, totalOn, countingOn}
@@ -37,10 +36,7 @@ begun c = c .before .before .before .before .before
 
 -- the table has few nodes, and the sheet the places that are needed
 sizes : (c : tie.After-header-of) → let N = c .header-of .result .nodes in (N ≤ 65535) × (8 * needed N ≤ length (begun c .begin-with .last .1 .0))
-sizes c =
-    let B = begins (begun c) in
-    let q = c .before .enum-told .given .1 in
-    (table-holds B q (c .header-of .ensures) .few, places-left B q (c .header-of .ensures .nodes-is))
+sizes c = front-sizes (begins (begun c)) (c .before .enum-told .given .1) (c .header-of .ensures)
 
 add-places : tie.Need-add-places
 add-places c = record { fits = omega (arith, sizes (c .before)) }
@@ -56,7 +52,7 @@ slice-relend c = sizes (c .before) .1
 
 -- the places lent
 lent-long : (c : tie.After-header-of) → let m = 8 * needed (c .header-of .result .nodes) in length (take m (begun c .begin-with .last .1 .0)) ≡ m
-lent-long c = length-take-le _ _ (sizes c .1)
+lent-long c = front-long (begins (begun c)) (c .before .enum-told .given .1) (c .header-of .ensures)
 
 slice-aggregate : tie.Need-slice-aggregate-count-on-under
 slice-aggregate c = sym (lent-long (c .before .before))
@@ -64,11 +60,8 @@ slice-aggregate c = sym (lent-long (c .before .before))
 count-on-under-requires : tie.Need-count-on-under-requires
 count-on-under-requires c κs =
     let a = c .before .before in
-    let B = begins (begun a) in
-    let q = a .before .enum-told .given .1 in
-    let h = a .header-of .ensures in
     let l = lent-long a in
-    (record { holds = table-holds B q h; reduced = table-reduced B q h; inside = root-inside B q h; room = omega arith }, omega arith)
+    (front-countable (begins (begun a)) (a .before .enum-told .given .1) (a .header-of .ensures) (omega arith), omega arith)
 
 -- from the count: where the header is read
 abbrev read : tie.After-count-on-under → tie.After-header-of
@@ -79,7 +72,7 @@ blank-requires c κs =
     let inner = c .before .before .before in
     let a = read inner in
     let w = inner .count-on-under in
-    omega (arith, sizes a .1, length-front (begun a .begin-with .last .1 .0) (w .last .1 .0) (8 * needed (a .header-of .result .nodes)) (w .kept .1 .0))
+    front-back (begins (begun a)) (a .before .enum-told .given .1) (a .header-of .ensures) (w .last .1 .0) (w .kept .1 .0)
 
 returns-2 : tie.Need-returns-2
 unfolding countingOn totalOn
@@ -92,7 +85,7 @@ returns-2 c =
     let h = a .header-of .ensures in
     let w = inner .count-on-under in (
       answered B q h (λ n P. value (countOn P n (begun a .before .before .before .before .args .m))) _ (ap value (w .ensures)),
-      blanked B q (h .nodes-is) _ _ (lent-past _ _ (w .last .1 .0) (sizes a .1) (w .kept .1 .0)) (blank .blank .ensures),
+      front-blanked B q h (w .last .1 .0) (w .kept .1 .0) _ (blank .blank .ensures),
     )
 
 pub count-on-spec : {M : Type 1} → statement M
