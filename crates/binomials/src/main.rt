@@ -1,4 +1,6 @@
 // Prints the table of binomial coefficients, one number a line, row by row.
+#![tactic(auto)]
+
 use programs::{say, say_number};
 
 fn main() {

@@ -1,4 +1,6 @@
 // Compares the library with a reader of its own, which takes the paper at its word and tries every setup.
+#![tactic(auto)]
+
 ghost use Rattle.std.specs.Prelude.{◌≤◌, ◌<◌};
 
 use checking::{Counted, Tested};
@@ -97,7 +99,7 @@ const RANDOM_6: [u64; 13] = [
 ];
 
 // The reader's answer to a setup. Lost: a record is missing or has height 0, or the walk does not end.
-#[derive(Drop)]
+#[derive(Clone, Copy)]
 enum Reading {
     Permitted,
     Forbidden,

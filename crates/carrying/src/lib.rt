@@ -1,4 +1,6 @@
 // Words that carry their nodes: by these few nodes are sorted, and numbered with no search.
+#![tactic(auto)]
+
 ghost use Rattle.std.specs.Prelude.{◌≡◌, true, ◌*◌, ◌≤◌, ◌<◌, length};
 ghost use Rattle.words.specs.Words.{word_at};
 ghost use Rattle.carrying.specs.Words.{keyed, sort_word, Carrying, Placed};

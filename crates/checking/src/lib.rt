@@ -1,4 +1,6 @@
 // The operations: checking, counting and testing. None has a `requires`: every table, sheet and setup gets its answer or its refusal.
+#![tactic(auto)]
+
 ghost use Rattle.std.specs.Prelude.{◌≡◌, ◌+◌, ◌*◌, ◌/◌, ◌≤◌};
 ghost use Rattle.words.specs.Words.{word_at};
 ghost use Rattle.diagram.specs.Meaning.{under};
@@ -13,25 +15,25 @@ use diagram::{Edge, Setup};
 use rules::{Refusal, Verdict};
 
 // An accepted table's n and N.
-#[derive(Drop)]
+#[derive(Clone, Copy)]
 pub struct Shape {
     pub settings: u64,
     pub nodes: usize,
 }
 
-#[derive(Drop)]
+#[derive(Clone, Copy)]
 pub enum Checked {
     Table(Shape),
     Refused(Refusal),
 }
 
-#[derive(Drop)]
+#[derive(Clone, Copy)]
 pub enum Counted {
     Total(u64),
     Refused(Refusal),
 }
 
-#[derive(Drop)]
+#[derive(Clone, Copy)]
 pub enum Tested {
     Permitted(bool),
     Refused(Refusal),

@@ -1,4 +1,6 @@
 // Two tables of equal n made into one: joined, shared, or the first without the second. It has no `requires`.
+#![tactic(auto)]
+
 ghost use Rattle.std.specs.Prelude.{◌≡◌, ◌*◌, ◌/◌, ◌≤◌, length};
 ghost use Rattle.words.specs.Words.{word_at};
 ghost use Rattle.diagram.specs.Ordered.{HasDiagram};
@@ -16,7 +18,7 @@ use rules::Refusal;
 use tables::Written;
 
 // How many bytes were written; or why none were, with the table that is refused: 1 or 2, or 0 if it names none.
-#[derive(Drop)]
+#[derive(Clone, Copy)]
 pub enum Combined {
     Bytes(usize),
     Refused(u64, Refusal),

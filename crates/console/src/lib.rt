@@ -1,4 +1,6 @@
 // The setup book for a C program: numbers and byte memory in; out comes one packed number, or a number and three words. include/setupbook.h declares these functions.
+#![tactic(auto)]
+
 ghost use Rattle.std.specs.Prelude.{◌≡◌, ℕ, length};
 ghost use Rattle.rules.specs.Packed.{packed};
 ghost use Rattle.checking.specs.Operations.{blank, blank_for};

@@ -1,4 +1,6 @@
 // The closest permitted setup: the one that differs from another in the fewest settings. It has no `requires`.
+#![tactic(auto)]
+
 ghost use Rattle.std.specs.Prelude.{◌≡◌, ◌*◌, ◌≤◌, length};
 ghost use Rattle.words.specs.Words.{word_at};
 ghost use Rattle.diagram.specs.Meaning.{under};
@@ -14,13 +16,13 @@ use diagram::{Edge, Setup};
 use rules::Refusal;
 
 // A setup, and in how many settings it differs.
-#[derive(Drop)]
+#[derive(Clone, Copy)]
 pub struct Correction {
     pub setup: Setup,
     pub distance: u64,
 }
 
-#[derive(Drop)]
+#[derive(Clone, Copy)]
 pub enum Corrected {
     To(Correction),
     Refused(Refusal),

@@ -1,4 +1,6 @@
 // Counting by shares: a node's place in the sheet holds how many of the setups of 63 settings a plain edge to it permits. A share is one number for every height, so a gap costs nothing. It stands least significant byte first, as the machine loads it.
+#![tactic(auto)]
+
 ghost use Rattle.std.specs.Prelude.{◌≡◌, ◌+◌, ◌*◌, ◌≤◌, ◌<◌, length};
 ghost use Rattle.words.specs.Words.{word_at, put_word, words_over};
 ghost use Rattle.diagram.specs.Count.{place};

@@ -1,4 +1,6 @@
 // A table and the nodes that cuts add behind it.
+#![tactic(auto)]
+
 ghost use Rattle.std.specs.Prelude.{◌≡◌, true, false, cond, ◌+◌, ◌-◌, ◌*◌, ◌/◌, ◌≤◌, ◌<◌, ◌^◌, eqb, length};
 ghost use Rattle.std.specs.Bool.{beq};
 ghost use Rattle.words.specs.Words.{word_at};
@@ -89,7 +91,7 @@ fn cut_word(h: u64, on: bool, inner: Edge, outer: Edge) -> u64
 }
 
 // The word of a cut's node, and the edge by which the bound goes on.
-#[derive(Drop)]
+#[derive(Clone, Copy)]
 struct Step {
     word: u64,
     next: Edge,

@@ -1,4 +1,6 @@
 // The way down to the setup of a rank: one setting at a time, by comparison and subtraction.
+#![tactic(auto)]
+
 ghost use Rattle.std.specs.Prelude.{◌≡◌, true, false, ◌+◌, ◌*◌, ◌/◌, ◌<◌, ◌^◌};
 ghost use Rattle.std.proofs.Math.Option.{some};
 ghost use Rattle.words.specs.Words.{word_at};
@@ -11,14 +13,14 @@ ghost use Rattle.descent.specs.Inner.{IsBelow, IsChoice, Stands, Crossed, Advanc
 use diagram::{Edge, Rank, Setup};
 
 // What lies below an edge: its node's height, and how many setups of the settings left it permits.
-#[derive(Drop)]
+#[derive(Clone, Copy)]
 pub struct Below {
     pub height: u64,
     pub count: u64,
 }
 
 // A way down: the edge reached and what lies below it, the number left among these setups, and the settings chosen so far, as digits.
-#[derive(Drop)]
+#[derive(Clone, Copy)]
 pub struct Way {
     pub edge: Edge,
     pub height: u64,
@@ -28,7 +30,7 @@ pub struct Way {
 }
 
 // The choice of a setting: whether it is on, and the number and the digits that it leads to.
-#[derive(Drop)]
+#[derive(Clone, Copy)]
 struct Choice {
     on: bool,
     left: u64,

@@ -1,4 +1,6 @@
 // Nodes, edges and setups of a table, and the reading of its header and records.
+#![tactic(auto)]
+
 ghost use Rattle.std.specs.Prelude.{◌≡◌, cond, ◌+◌, ◌*◌, ◌/◌, ◌%◌, ◌≤◌, ◌<◌, ◌^◌, eqb, length};
 ghost use Rattle.words.specs.Words.{word_at};
 ghost use Rattle.diagram.specs.Format.{height};
@@ -6,19 +8,19 @@ ghost use Rattle.diagram.specs.Count.{indicator};
 ghost use Rattle.diagram.specs.Reading.{HasFields, IsHeader, IsRecord, turn, record_of};
 
 // A node's number. Node 0 is the sink.
-#[derive(Drop)]
+#[derive(Clone, Copy)]
 pub struct Node(pub usize);
 
 // A setup: an assignment of the settings, the first one the most significant bit.
-#[derive(Drop)]
+#[derive(Clone, Copy)]
 pub struct Setup(pub u64);
 
 // How many permitted setups are smaller.
-#[derive(Drop)]
+#[derive(Clone, Copy)]
 pub struct Rank(pub u64);
 
 // An edge to a node, plain or complemented by its flag: 2 × node + flag.
-#[derive(Drop)]
+#[derive(Clone, Copy)]
 pub struct Edge {
     pub value: u64,
 }
@@ -68,7 +70,7 @@ impl Edge {
 }
 
 // An edge as it goes on where one setting is on (high) or off (low).
-#[derive(Drop)]
+#[derive(Clone, Copy)]
 pub struct Cofactors {
     pub high: Edge,
     pub low: Edge,
@@ -86,7 +88,7 @@ impl Cofactors {
 }
 
 // Word 0: n settings, N nodes, and the root edge.
-#[derive(Drop)]
+#[derive(Clone, Copy)]
 pub struct Header {
     pub settings: u64,
     pub nodes: usize,
@@ -104,7 +106,7 @@ impl Header {
 }
 
 // Word k: the height of node k, its then-edge (high) and its else-edge (low).
-#[derive(Drop)]
+#[derive(Clone, Copy)]
 pub struct Record {
     pub height: u64,
     pub high: Edge,

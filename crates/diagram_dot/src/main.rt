@@ -1,5 +1,7 @@
 // Draws a table of at most 4,096 bytes, read from standard input, as a graph for Graphviz: a row for each height that has
 // nodes, from the top. Then-edges are solid, else-edges dashed, and flagged (complemented) edges end in a dot.
+#![tactic(auto)]
+
 ghost use Rattle.std.specs.Prelude.{◌+◌, ◌*◌, ◌≤◌, ◌<◌, length};
 ghost use Rattle.diagram.specs.Ordered.{HasDiagram};
 

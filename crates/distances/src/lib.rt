@@ -1,4 +1,6 @@
 // The distance of two setups, and a setup with one setting set.
+#![tactic(auto)]
+
 ghost use Rattle.std.specs.Prelude.{◌≡◌, ◌≤◌, ◌<◌, ◌^◌};
 ghost use Rattle.diagram.specs.Meaning.{bit};
 ghost use Rattle.diagram.specs.Count.{indicator};

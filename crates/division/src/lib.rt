@@ -1,4 +1,6 @@
 // Divisions of a table into parts: where a part starts in the numbering, and how many setups it has.
+#![tactic(auto)]
+
 ghost use Rattle.std.specs.Prelude.{◌≡◌, false, ◌+◌, ◌≤◌, ◌<◌, ◌^◌};
 ghost use Rattle.words.specs.Words.{word_at};
 ghost use Rattle.diagram.specs.Meaning.{under};
@@ -14,13 +16,13 @@ use diagram::{Edge, Rank};
 use rules::Refusal;
 
 // A part: the rank at which it starts (that of the next part, where it is empty), and how many setups it has.
-#[derive(Drop)]
+#[derive(Clone, Copy)]
 pub struct Extent {
     pub start: Rank,
     pub size: u64,
 }
 
-#[derive(Drop)]
+#[derive(Clone, Copy)]
 pub enum Spanned {
     Part(Extent),
     Refused(Refusal),

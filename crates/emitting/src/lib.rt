@@ -1,4 +1,6 @@
 // Writing the table of a diagram that is numbered anew: the header, and the new records at their numbers.
+#![tactic(auto)]
+
 ghost use Rattle.std.specs.Prelude.{◌≡◌, ◌+◌, ◌*◌, ◌/◌, ◌≤◌, ◌<◌, length};
 ghost use Rattle.words.specs.Words.{word_at, put_word};
 ghost use Rattle.diagram.specs.Reading.{record_of};

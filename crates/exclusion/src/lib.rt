@@ -1,4 +1,6 @@
 // Where a setup leaves the book: how many of its first settings rule it out, and the smallest permitted setup that agrees in all of these but the last. It has no `requires`.
+#![tactic(auto)]
+
 mod way;
 
 ghost use Rattle.std.specs.Prelude.{◌≡◌};
@@ -14,14 +16,14 @@ use diagram::{Edge, Setup};
 use rules::Refusal;
 
 // p, from 1 to n: no permitted setup begins with the same first p settings. And the smallest permitted setup that agrees in the first p - 1.
-#[derive(Drop)]
+#[derive(Clone, Copy)]
 pub struct Exclusion {
     pub settings: u64,
     pub given: Setup,
 }
 
 // The setup is permitted; or nothing is, and p is 0; or it is ruled out.
-#[derive(Drop)]
+#[derive(Clone, Copy)]
 pub enum RuledOut {
     Permitted,
     Empty,

@@ -1,5 +1,7 @@
 // The nodes that an edge of a loose table leads to, laid in a sheet as `compiling` takes them.
 // The sheet has four regions of p places, one more than the table has records, and p bytes of marks behind them. First the nodes that are met become words 0, 1, .. and get marks. Then a node keeps its number v: its two edges are words p + v and 3 p + v, its height is word 2 p + v. A node that is not met is laid as the sink is: by zeros.
+#![tactic(auto)]
+
 ghost use Rattle.std.specs.Prelude.{◌≡◌, ◌*◌, ◌≤◌, ◌<◌, length};
 ghost use Rattle.words.specs.Words.{word_at};
 ghost use Rattle.gathering.specs.Inner.{LooseWithin, Reached, mark, NoMarks, Meets, AllMet, IsNode, AllLaid, Laid, MarksStay};

@@ -1,4 +1,6 @@
 // Checking, counting, testing and spans for C, each answer packed into one number. For the outside tests and the bench.
+#![tactic(auto)]
+
 ghost use Rattle.std.specs.Prelude.{◌≡◌, ℕ, ◌+◌, ◌*◌, ◌^◌};
 ghost use Rattle.diagram.specs.Count.{indicator};
 ghost use Rattle.checking.specs.Operations.{checking, counting, testing, blank, counts};

@@ -1,11 +1,13 @@
 // A set of keys in lent memory: insert only, in order of insertion, found by a hash table (open addressing, double hashing).
 // The memory has regions of p places. Key i is word i; slot s is word 2 p + s and holds 0 if it is free, or 1 + the index of a key.
+#![tactic(auto)]
+
 ghost use Rattle.std.specs.Prelude.{◌≡◌, cond, ◌+◌, ◌*◌, ◌≤◌, ◌<◌, ◌^◌, ltb, length};
 ghost use Rattle.words.specs.Words.{word_at};
 ghost use Rattle.keys.specs.Keys.{mixed, homes, scaled, home, stride, strides, further, Keys, Absent, Open, Searched, Inserted, Cleared};
 
 // The index of a key, and the slot at which its search ended.
-#[derive(Drop)]
+#[derive(Clone, Copy)]
 pub struct Place {
     pub index: usize,
     pub slot: usize,

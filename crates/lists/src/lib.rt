@@ -1,4 +1,6 @@
 // The setups of a list of ranks, in one call. It has no `requires`.
+#![tactic(auto)]
+
 mod order;
 
 ghost use Rattle.std.specs.Prelude.{◌≡◌, ℕ, ◌+◌, ◌*◌, ◌<◌, ◌≤◌, ◌^◌, length};
@@ -16,7 +18,7 @@ use checking::Checked;
 use diagram::{Edge, Rank, Setup};
 use rules::{Item, Refusal, Verdict};
 
-#[derive(Drop)]
+#[derive(Clone, Copy)]
 pub enum Listed {
     Items(usize),
     Refused(Refusal),

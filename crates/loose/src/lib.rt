@@ -1,4 +1,6 @@
 // The rules of the records of a loose table: 4 and 6 of each. They touch no lent memory.
+#![tactic(auto)]
+
 ghost use Rattle.std.specs.Prelude.{◌≡◌, ◌||◌, ◌+◌, ◌*◌, ◌≤◌, ◌<◌, length};
 ghost use Rattle.words.specs.Words.{word_at};
 ghost use Rattle.rules.specs.Refusals.{verdict_as};

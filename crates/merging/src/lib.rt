@@ -1,4 +1,6 @@
 // A table with the nodes of two cuts behind it is numbered anew in the order of the new records: level by level, the table's nodes in between the two of the cuts.
+#![tactic(auto)]
+
 ghost use Rattle.std.specs.Prelude.{◌≡◌, ◌+◌, ◌*◌, ◌≤◌, ◌<◌, length};
 ghost use Rattle.words.specs.Words.{word_at};
 ghost use Rattle.numbering.specs.Renewal.{IsKey};
@@ -10,7 +12,7 @@ use diagram::Node;
 use numbering::{Key, Tally};
 
 // The next node of the table, the heights of the next nodes of the two cuts, and the tally so far.
-#[derive(Drop)]
+#[derive(Clone, Copy)]
 struct Progress {
     next: usize,
     first: usize,

@@ -1,4 +1,6 @@
 // Several models over one diagram: root edges that stand as words in `roots`. Their counts added up, and the model in which a number lies.
+#![tactic(auto)]
+
 ghost use Rattle.std.specs.Prelude.{◌≡◌, ◌+◌, ◌*◌, ◌^◌, ◌≤◌, ◌<◌};
 ghost use Rattle.models.specs.Pairs.{sum_counts};
 ghost use Rattle.models.specs.Inner.{models_of, Rooted, RootedIn, AddsUp, LiesAt};
@@ -6,7 +8,7 @@ ghost use Rattle.models.specs.Inner.{models_of, Rooted, RootedIn, AddsUp, LiesAt
 use diagram::Rank;
 
 // A sum of two words: low + 2^64 × high. (64 counts of 2^63 come to 2^69.)
-#[derive(Drop)]
+#[derive(Clone, Copy)]
 pub struct Sum {
     pub low: u64,
     pub high: u64,
@@ -48,7 +50,7 @@ pub fn add_up(sheet: &[u8], roots: &[u8], n: u64, m: usize) -> Sum
 }
 
 // A model, and a rank among its setups.
-#[derive(Drop)]
+#[derive(Clone, Copy)]
 pub struct Within {
     pub model: usize,
     pub rank: Rank,

@@ -1,4 +1,6 @@
 // What an operation on two tables names, and the pairs of edges made ready to be numbered.
+#![tactic(auto)]
+
 ghost use Rattle.std.specs.Prelude.{◌≡◌, ◌*◌, ◌≤◌, ◌<◌, length};
 ghost use Rattle.words.specs.Words.{word_at};
 ghost use Rattle.pairing.specs.Inner.{PairWithin};
@@ -6,7 +8,7 @@ ghost use Rattle.naming.specs.Combination.{names};
 ghost use Rattle.naming.specs.Inner.{IsFlag, PairsWithin, Readied, AllReady};
 
 // What is made of two tables.
-#[derive(Drop)]
+#[derive(Clone, Copy)]
 pub enum Operation {
     Joined,
     Shared,

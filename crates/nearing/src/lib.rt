@@ -1,5 +1,7 @@
 // The nearest setup under an edge, by distances in the sheet. Byte e is for edge e: in how many settings of its node the nearest setup that e permits differs from setup x; 64 for `never`, which permits none.
 // A free setting is kept, so a distance is the same at every height above its node.
+#![tactic(auto)]
+
 ghost use Rattle.std.specs.Prelude.{◌≡◌, ◌+◌, ◌-◌, ◌/◌, ◌≤◌, ◌<◌, set, get_or, length};
 ghost use Rattle.words.specs.Words.{word_at};
 ghost use Rattle.diagram.specs.Format.{height};
@@ -10,7 +12,7 @@ ghost use Rattle.nearing.specs.Inner.{lesser, HasBytes, Next, Fillable, Filled, 
 use diagram::{Cofactors, Edge, Node, Setup};
 
 // What it costs to have a setting off, or on: the distance under that side, and 1 if the setting has to change for it.
-#[derive(Drop)]
+#[derive(Clone, Copy)]
 struct Costs {
     off: u8,
     on: u8,

@@ -1,4 +1,6 @@
 // The setups that differ from another one in one setting.
+#![tactic(auto)]
+
 ghost use Rattle.std.specs.Prelude.{◌≡◌, ◌≢◌, false, ◌/◌, ◌<◌, ◌^◌};
 ghost use Rattle.words.specs.Words.{word_at};
 ghost use Rattle.diagram.specs.Format.{height};

@@ -1,4 +1,6 @@
 // Nodes numbered anew by a map: what an edge and a record become, and the place that a node gets.
+#![tactic(auto)]
+
 ghost use Rattle.std.specs.Prelude.{◌≡◌, ◌+◌, ◌-◌, ◌*◌, ◌/◌, ◌≤◌, ◌<◌, length};
 ghost use Rattle.words.specs.Words.{word_at};
 ghost use Rattle.diagram.specs.Format.{middle_field, low_field};
@@ -7,14 +9,14 @@ ghost use Rattle.numbering.specs.Renewal.{image, normal, renew, Renewable, Stays
 use diagram::{Edge, Node, Record};
 
 // What a node becomes: its new record, 0 if it is left out, and the flag taken out of it.
-#[derive(Drop)]
+#[derive(Clone, Copy)]
 pub struct Key {
     pub word: u64,
     pub flag: u64,
 }
 
 // How many new records there are, and the last of them.
-#[derive(Drop)]
+#[derive(Clone, Copy)]
 pub struct Tally {
     pub count: u64,
     pub last: u64,

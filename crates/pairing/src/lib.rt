@@ -1,5 +1,7 @@
 // The pairs of edges that two tables lead to from their root edges.
 // The pair sheet has four regions of p places: pair i is word i, the edge to its then-pair word p + i, to its else-pair word 3 p + i, and the slots of the set of pairs lie at 2 p. An edge to pair j is 2 j.
+#![tactic(auto)]
+
 ghost use Rattle.std.specs.Prelude.{◌≡◌, true, false, ◌+◌, ◌*◌, ◌/◌, ◌≤◌, ◌<◌, length};
 ghost use Rattle.words.specs.Words.{word_at};
 ghost use Rattle.keys.specs.Keys.{Keys};
@@ -12,21 +14,21 @@ ghost use Rattle.pairing.specs.Inner.{PairWithin, EdgesPut, Visited, Overfull, A
 use diagram::{Cofactors, Edge, Node};
 
 // How many pairs there are, or that there is no room for them.
-#[derive(Drop)]
+#[derive(Clone, Copy)]
 pub enum Found {
     All(usize),
     Full,
 }
 
 // A pair's index and how many pairs there are then, or that there is no room.
-#[derive(Drop)]
+#[derive(Clone, Copy)]
 enum Arrival {
     At(usize, usize),
     Full,
 }
 
 // What a pair leads to with the setting of its height on (high) and off (low).
-#[derive(Drop)]
+#[derive(Clone, Copy)]
 struct Sides {
     high: u64,
     low: u64,

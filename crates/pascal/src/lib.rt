@@ -1,4 +1,6 @@
 // Pascal's triangle: the binomial coefficients of rows 0 to 63 as one constant, and what an entry counts.
+#![tactic(auto)]
+
 ghost use Rattle.std.specs.Prelude.{◌≡◌, ◌≤◌};
 ghost use Rattle.pascal.specs.Triangle.{PascalsRule, binomial};
 

@@ -1,4 +1,6 @@
 // What the programs share: reading a table from standard input, and saying texts, numbers and refusals on standard output.
+#![tactic(auto)]
+
 ghost use Rattle.io.specs.Counts.{IsPrefixLen};
 
 use libc::{STDIN_FILENO, STDOUT_FILENO};
@@ -28,7 +30,7 @@ pub fn refuse(refusal: Refusal) {
 }
 
 // What was read: its length, and whether it is the whole table.
-#[derive(Drop)]
+#[derive(Clone, Copy)]
 pub struct Input {
     pub length: usize,
     pub whole: bool,

@@ -1,4 +1,6 @@
 // The operations rank and unrank: a permitted setup's number, and the setup of a number. Neither has a `requires`.
+#![tactic(auto)]
+
 ghost use Rattle.std.specs.Prelude.{◌≡◌, ◌+◌};
 ghost use Rattle.words.specs.Words.{word_at};
 ghost use Rattle.diagram.specs.Meaning.{under};
@@ -12,13 +14,13 @@ use checking::{Checked, Tested};
 use diagram::{Edge, Rank, Setup};
 use rules::Refusal;
 
-#[derive(Drop)]
+#[derive(Clone, Copy)]
 pub enum Ranked {
     At(Rank),
     Refused(Refusal),
 }
 
-#[derive(Drop)]
+#[derive(Clone, Copy)]
 pub enum Unranked {
     To(Setup),
     Refused(Refusal),

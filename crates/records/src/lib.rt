@@ -1,4 +1,6 @@
 // The rules of the records: 4 to 8 of each, and 9 of all. They touch no lent memory.
+#![tactic(auto)]
+
 mod names;
 mod pass;
 

@@ -1,6 +1,8 @@
 // Numbers the nodes of a diagram height by height: nodes in any order become the records of a reduced diagram.
 // The sheet has regions of p places. At first node i has its two edges (2 × node + flag) at p + i and 3 p + i, and its height at 2 p + i; a node of height 0 has its flag at p + i.
 // In the end the edge that node i has become stands at p + i, and the records stand from place 0 on.
+#![tactic(auto)]
+
 ghost use Rattle.std.specs.Prelude.{◌≡◌, true, not, suc, ◌+◌, ◌*◌, ◌/◌, ◌≤◌, ◌<◌, eqb, length, replicate};
 ghost use Rattle.words.specs.Words.{word_at};
 ghost use Rattle.numbering.specs.Numbered.{Good};
@@ -11,7 +13,7 @@ ghost use Rattle.reducing.specs.Steps.{Nodes, Linked, Low, Ready, Leads, Renewed
 use diagram::Edge;
 
 // How many records there are, or that there are more than 65,535.
-#[derive(Drop)]
+#[derive(Clone, Copy)]
 pub enum Reduced {
     Records(usize),
     TooMany,

@@ -1,6 +1,8 @@
 // Rows of coefficients, modulo 2^64. For a test of setups of h settings let P(z) have as coefficient of z^j how many with j settings on pass, less how many do not.
 // Then P(z) / (1 + z)^h is a polynomial in y = z / (1 + z), and its coefficients of y^0 to y^m are the row. A free setting leaves a row as it is, a flag turns its
 // signs, and a node has y × the row of its then-edge + (1 - y) × that of its else-edge. Powers above y^m do not reach the setups with at most m settings on.
+#![tactic(auto)]
+
 ghost use Rattle.std.specs.Prelude.{◌≡◌, ◌+◌, ◌*◌, ◌%◌, ◌^◌, ◌<◌, ◌≤◌, length};
 ghost use Rattle.pascal.specs.Triangle.{PascalsRule};
 ghost use Rattle.rows.specs.Inner.{expand, from, Mixes, Next, Entered, Rows, Fillable, Opened, CountsUnder};

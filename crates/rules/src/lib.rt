@@ -1,4 +1,6 @@
 // Refusals, and the rules of the header: 1 to 3, and 10.
+#![tactic(auto)]
+
 ghost use Rattle.std.specs.Prelude.{◌≡◌, ◌+◌, ◌*◌, ◌≤◌, ◌<◌, ◌^◌};
 ghost use Rattle.diagram.specs.Rules.{wrong_root, check_header_of};
 ghost use Rattle.rules.specs.Refusals.{number_of, place_of, verdict_as};
@@ -6,11 +8,11 @@ ghost use Rattle.rules.specs.Refusals.{number_of, place_of, verdict_as};
 use diagram::Node;
 
 // An item of a list, counted from 1.
-#[derive(Drop)]
+#[derive(Clone, Copy)]
 pub struct Item(pub usize);
 
 // Why an operation is refused, and at which record or item.
-#[derive(Drop)]
+#[derive(Clone, Copy)]
 pub enum Refusal {
     Length,
     Nodes,
@@ -105,7 +107,7 @@ pub fn pack_refusal(refusal: Refusal) -> u64
 }
 
 // Some of the rules: they pass, or the first that does not.
-#[derive(Drop)]
+#[derive(Clone, Copy)]
 pub enum Verdict {
     Passed,
     Refused(Refusal),

@@ -1,4 +1,6 @@
 // Runs the paper's samples, and prints a line for each.
+#![tactic(auto)]
+
 use checking::{Checked, Counted, Shape, Tested};
 use combining::Combined;
 use correcting::Corrected;

@@ -1,5 +1,7 @@
 // Lists the permitted setups of a table of at most 4,096 bytes, read from standard input: the header line, then each
 // rank with its setup as n binary digits, at most 256 of them.
+#![tactic(auto)]
+
 ghost use Rattle.std.specs.Prelude.{◌≤◌, length};
 
 use checking::{Checked, Counted};

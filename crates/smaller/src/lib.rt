@@ -1,4 +1,6 @@
 // How many smaller setups an edge or a node permits.
+#![tactic(auto)]
+
 ghost use Rattle.std.specs.Prelude.{◌≡◌, ◌+◌, ◌*◌, ◌/◌, ◌%◌, ◌≤◌, ◌<◌, ◌^◌};
 ghost use Rattle.words.specs.Words.{word_at};
 ghost use Rattle.diagram.specs.Format.{height};
@@ -11,7 +13,7 @@ ghost use Rattle.smaller.specs.Inner.{IsStep};
 use diagram::{Edge, Node, Rank, Setup};
 
 // How a setup leaves a node: by this edge, past `passed` permitted setups, with these settings left.
-#[derive(Drop)]
+#[derive(Clone, Copy)]
 struct Step {
     edge: Edge,
     passed: u64,

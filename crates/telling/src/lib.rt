@@ -1,4 +1,6 @@
 // Answers in three words.
+#![tactic(auto)]
+
 ghost use Rattle.std.specs.Prelude.{◌≡◌, [], ◌∷◌};
 ghost use Rattle.rules.specs.Refusals.{number_of, place_of};
 ghost use Rattle.checking.specs.Answers.{counted_as};

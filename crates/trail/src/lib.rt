@@ -1,5 +1,7 @@
 // The way down to a rank, from where it leaves the way down to the rank before it.
 // What is kept of a way, for each number of settings left: the edge reached, and the rank at which the setups that begin so end.
+#![tactic(auto)]
+
 ghost use Rattle.std.specs.Prelude.{◌≡◌, ℕ, ◌+◌, ◌-◌, ◌≤◌, ◌<◌, ◌^◌, get_or, set};
 ghost use Rattle.trail.specs.Inner.{Ends, Followed, FollowsOn, FollowsTo, Resumed, ResumesTo};
 

@@ -1,4 +1,6 @@
 // The way of a setup through the diagram, and the two sides of an edge at its node's setting.
+#![tactic(auto)]
+
 ghost use Rattle.std.specs.Prelude.{◌≡◌, not, ◌/◌, ◌<◌};
 ghost use Rattle.words.specs.Words.{word_at};
 ghost use Rattle.diagram.specs.Meaning.{branch, plain, under};
@@ -66,7 +68,7 @@ pub fn permitted_under(table: &[u8], e: Edge, x: Setup) -> bool
 }
 
 // The node that an edge leads to: its height, and the edge's two sides by its setting.
-#[derive(Drop)]
+#[derive(Clone, Copy)]
 pub struct Fork {
     pub height: u64,
     pub sides: Cofactors,

@@ -1,5 +1,7 @@
 // Words of 64 bits in a slice of bytes, most significant byte first: a read is one load and a byte swap, a write a byte swap and one store.
 // The load and the store have functions of their own, least significant byte first: the compiler makes one access of each. Numbers that nobody else reads are left in that order.
+#![tactic(auto)]
+
 ghost use Rattle.std.specs.Prelude.{◌≡◌, ◌+◌, ◌*◌, ◌≤◌, length};
 ghost use Rattle.words.specs.Words.{word_at, put_word, words_over};
 ghost use Rattle.words.specs.Swap.{swap};

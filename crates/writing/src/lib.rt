@@ -1,4 +1,6 @@
 // The table of the setups between two bounds: cut out, marked, numbered anew, and written.
+#![tactic(auto)]
+
 ghost use Rattle.std.specs.Prelude.{◌≡◌, false, ℕ, ◌+◌, ◌/◌, ◌≤◌, ◌<◌, ◌^◌, length};
 ghost use Rattle.words.specs.Words.{word_at};
 ghost use Rattle.diagram.specs.Meaning.{under};
@@ -13,7 +15,7 @@ use rules::Refusal;
 use tables::Written;
 
 // A diagram that is numbered anew: how many records it has, and its root's edge in the old numbers.
-#[derive(Drop)]
+#[derive(Clone, Copy)]
 struct Built {
     records: u64,
     edge: Edge,

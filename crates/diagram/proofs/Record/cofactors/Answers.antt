@@ -1,0 +1,6 @@
+-- `diagram::Record::cofactors` meets its contract. Assumes nothing.
+use borrow.Author.Rules.{rules}
+use Rattle.diagram.proofs.Record.cofactors.Goals as goal
+
+pub returns : goal.returns
+returns c = (c.turned_by.ensures, c.turned_by-2.ensures)

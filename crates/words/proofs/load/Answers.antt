@@ -1,0 +1,10 @@
+-- `words::load` meets its contract: the eight bytes in the opposite order are the word. Assumes nothing.
+use mathlib.Core.Path.{ap, ◌∙◌}
+use borrow.Author.Rules.{rules}
+use native.Mathlib.Omega.{arith}
+use Rattle.words.specs.Swap.{swap}
+use Rattle.words.proofs.Swaps.{swap_loads}
+use Rattle.words.proofs.load.Goals as goal
+
+pub returns : goal.returns
+returns c = ap swap c.little_of.ensures ∙ swap_loads _ _ (λ i. omega (arith, c.shared_slice_known-9-1.given i))
