@@ -71,7 +71,7 @@ module _ (t : List ℕ) (P root : ℕ) (I : LooseWithin t P root) (inside : root
   fields v l p =
       let m = laid_marked v l p in
       let f = (L.nodes v l).some m.0 (omega (arith, m.1)) in
-      (f.0, λ b. elim b [ true ↦ f.1 | false ↦ f.2 ])
+      (f.0, λ b. elim b as (λ b. cond b (W (P + v)) (W (3 * P + v)) ≡ side w b v) [ true ↦ f.1 | false ↦ f.2 ])
 
   free : (v : ℕ) → v < P → laid W P v ≡ 0 → W (P + v) ≡ 0
   free v l z = elim (tri 0 v) [

@@ -55,7 +55,7 @@ module _ (t s : List ℕ) (m k h a b : ℕ) (p : 0 < k) (R : Next t s m k) (r : 
   low_before v e = row_below m v k (omega (arith, low_is.node))
 
   then_plain : a % 2 ≡ 0
-  then_plain = ap (λ (e : ℕ). e % 2) r.then_is ∙ R.Plain-then
+  then_plain = ap (λ (e : ℕ). e % 2) r.then_is ∙ R.plain_then
 
   -- its row stands for it where it is made of them
   stands : (s' : List ℕ) → Mixed (row_of s' m k) (row_of s m (a / 2)) (turned (b % 2) (row_of s m (b / 2))) m → Stands (plain w k) (row_of s' m k) m (height w k)

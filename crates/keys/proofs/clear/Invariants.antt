@@ -1,0 +1,16 @@
+-- `keys::clear` meets its contract. The loop's invariant: the first s slots are free. Assumes nothing.
+use Prim.Native.Nat.{◌+◌, ◌-◌, ◌*◌, ◌≤◌}
+use mathlib.Core.Path.{◌≡◌, refl, ◌∙◌}
+use native.Mathlib.Omega.{arith}
+use borrow.Author.Rules.{rules}
+use lib.ListN.{length}
+use Rattle.words.specs.Words.{word_at}
+use Rattle.words.proofs.Stores.{stored, stored_long}
+use Rattle.keys.proofs.Inserting.{Freed, freed_none, freed_next, freed_all}
+use Rattle.keys.proofs.clear.Given as goal
+
+abbrev pub invariant-loop-s : goal.invariant-loop-s
+invariant-loop-s l = (length l.sheet ≡ length l.initial.sheet) × Freed (word_at l.initial.sheet) (word_at l.sheet) l.p l.s
+
+abbrev pub decreases-loop-s : goal.decreases-loop-s
+decreases-loop-s l = l.p - l.s
