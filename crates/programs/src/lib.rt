@@ -1,32 +1,34 @@
 // What the programs share: reading a table from standard input, and saying texts, numbers and refusals on standard output.
 #![tactic(auto)]
 
-ghost use Rattle.io.specs.Counts.{IsPrefixLen};
+ghost use Rattle.std.specs.Prelude.{◌≤◌, length, IfOk};
+ghost use Rattle.programs.specs.Reading.{IsPrefixLen};
 
-use libc::{STDIN_FILENO, STDOUT_FILENO};
 use rules::Refusal;
+use std::io;
+use std::io::{Print, Read};
 
-pub fn say(text: &[u8]) {
-    io::write_all(STDOUT_FILENO, text);
+pub fn say<P: Print>(to: &P, text: &[u8]) -> io::Result<()> {
+    to.write_all(text)
 }
 
 // A text, then a number.
-pub fn say_number(text: &[u8], number: u64) {
-    say(text);
-    io::print_decimal(STDOUT_FILENO, number);
+pub fn say_number<P: Print>(to: &P, text: &[u8], number: u64) -> io::Result<()> {
+    say(to, text)?;
+    to.print(number)
 }
 
 // A text, then `refused R at P`.
-pub fn say_refusal(text: &[u8], refusal: Refusal) {
-    say(text);
-    say_number(b"refused ", rules::number_of(refusal));
-    say_number(b" at ", rules::place_of(refusal) as u64);
+pub fn say_refusal<P: Print>(to: &P, text: &[u8], refusal: Refusal) -> io::Result<()> {
+    say(to, text)?;
+    say_number(to, b"refused ", rules::number_of(refusal))?;
+    say_number(to, b" at ", rules::place_of(refusal) as u64)
 }
 
 // The line of a refusal.
-pub fn refuse(refusal: Refusal) {
-    say_refusal(b"", refusal);
-    say(b"\n");
+pub fn refuse<P: Print>(to: &P, refusal: Refusal) -> io::Result<()> {
+    say_refusal(to, b"", refusal)?;
+    say(to, b"\n")
 }
 
 // What was read: its length, and whether it is the whole table.
@@ -36,14 +38,29 @@ pub struct Input {
     pub whole: bool,
 }
 
-// Reads a table of at most 4,096 bytes; of a longer one it says `too long`.
-pub fn read_table(memory: &mut [u8; 4097]) -> Input
-    ensures { IsPrefixLen result.length memory.new }
+// Reads until the memory is full or the input ends: how many bytes.
+fn read_full<R: Read>(from: &mut R, memory: &mut [u8]) -> io::Result<usize>
+    ensures { IfOk result (λ n. n ≤ length memory.new) }
 {
-    let length = io::read_full(STDIN_FILENO, memory);
+    let mut length = 0;
+    while length < memory.len() {
+        let more = from.read(&mut memory[length..])?;
+        if more == 0 {
+            return Ok(length);
+        }
+        length += more;
+    }
+    Ok(length)
+}
+
+// Reads a table of at most 4,096 bytes; of a longer one it says `too long`.
+pub fn read_table<R: io::Input + Print>(rt: &R, memory: &mut [u8; 4097]) -> io::Result<Input>
+    ensures { IfOk result (λ input. IsPrefixLen input.length memory.new) }
+{
+    let length = read_full(&mut rt.reader(), memory)?;
     let whole = length <= 4096;
     if !whole {
-        say(b"too long\n");
+        say(rt, b"too long\n")?;
     }
-    Input { length, whole }
+    Ok(Input { length, whole })
 }

@@ -16,6 +16,6 @@ branch-table-requires c =
     (q.1, omega (arith, q.0), p.2)
 
 pub returns : goal.returns
-returns-then-way-h c =
+returns c =
     let p = c.requires in
     from_top _ _ _ _ p.0 c.if-way-h.false _ c.branch-table.ensures

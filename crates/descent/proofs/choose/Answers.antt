@@ -8,4 +8,4 @@ pub returns-then-left-off : goal.returns-then-left-off
 returns-then-left-off c = record { on_is = sym (lt-leb _ _ c.if-left-off.true); left_is = refl; digits_is = refl }
 
 pub returns : goal.returns
-returns-then-left-off c = record { on_is = sym (le-leb _ _ c.if-left-off.false); left_is = refl; digits_is = refl }
+returns c = record { on_is = sym (le-leb _ _ c.if-left-off.false); left_is = refl; digits_is = refl }

@@ -6,4 +6,4 @@ pub returns-then-h-eq0 : goal.returns-then-h-eq0
 returns-then-h-eq0 c = rw (eq-eqb _ _ c.if-h-eq0.true)
 
 pub returns : goal.returns
-returns-then-h-eq0 c = rw (ne_eqb _ _ c.if-h-eq0.false)
+returns c = rw (ne_eqb _ _ c.if-h-eq0.false)

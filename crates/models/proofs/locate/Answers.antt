@@ -36,7 +36,7 @@ loop-i-preserved c =
     (omega (arith, c.loop-i-test.true), omega (arith, i.invariant.1, c.if-left-c.false, counted (goal.at.loop-i-preserved c).After-count_under-c, sum_next a.n (models_of a.table.now a.roots.now) i.i))
 
 pub returns : goal.returns
-returns-then-left-c c =
+returns c =
     let i = c.loop-i in
     let e : i.i ≡ c.args.m = omega (arith, i.invariant.0) in
     absurd (omega (arith, i.invariant.1, c.requires.1, ap (sum_counts c.args.n (models_of c.args.table.now c.args.roots.now)) e))

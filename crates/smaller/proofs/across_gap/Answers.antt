@@ -23,4 +23,4 @@ pub overflow_add-result-2 : goal.overflow_add-result-2
 overflow_add-result-2 c = record { fits = plain_fits _ _ _ _ 0 c.requires.0 c.requires.1 c.requires.2 c.struct_known-1.given.0.fits }
 
 pub returns : goal.returns
-returns-then-flagged c = plain_is _ _ _ _ _ c.requires.0 c.requires.1 c.requires.2 c.struct_known-1.given.0.fits _ c.flagged.ensures c.if-flagged.false
+returns c = plain_is _ _ _ _ _ c.requires.0 c.requires.1 c.requires.2 c.struct_known-1.given.0.fits _ c.flagged.ensures c.if-flagged.false

@@ -17,7 +17,7 @@ pub count_under-passed-requires : goal.count_under-passed-requires
 count_under-passed-requires c = let p = c.requires in (_, low_opens _ _ _ _ _ _ _ p.0 p.1 p.2 c.record_at-record.ensures)
 
 pub returns : goal.returns
-returns-then-y-half c =
+returns c =
     let p = c.requires in
     let r = c.record_at-record.ensures in
     step_high _ _ _ _ _ _ _ p.0 p.1 p.2 r c.if-y-half.false _ (c.count_under-passed.ensures _ (low_opens _ _ _ _ _ _ _ p.0 p.1 p.2 r))

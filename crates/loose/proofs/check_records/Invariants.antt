@@ -1,0 +1,16 @@
+-- `loose::check_records` meets its contract. The loop's invariant: the first k records pass. Assumes nothing.
+use Prim.Native.Nat.{suc, ◌-◌, ◌≤◌}
+use mathlib.Core.Path.{◌≡◌, refl, sym, ◌∙◌}
+use native.Mathlib.Omega.{arith}
+use borrow.Author.Rules.{rules}
+use Rattle.words.specs.Words.{word_at}
+use Rattle.diagram.specs.Answer.{pass, each}
+use Rattle.rules.proofs.Turns.{turn_refused, turn_passed}
+use Rattle.loose.specs.Rules.{check_loose_record, check_loose_records}
+use Rattle.loose.proofs.check_records.Given as goal
+
+abbrev pub invariant-loop-k : goal.invariant-loop-k
+invariant-loop-k l = (l.k ≤ l.nodes) × (each (λ i. check_loose_record (word_at l.table) l.n l.nodes (suc i)) l.k ≡ pass)
+
+abbrev pub decreases-loop-k : goal.decreases-loop-k
+decreases-loop-k l = l.nodes - l.k

@@ -1,0 +1,10 @@
+-- `loose::has_astray` meets its contract. Assumes nothing.
+use mathlib.Core.Path.{sym, ◌∙◌}
+use borrow.Author.Rules.{rules}
+use Rattle.loose.proofs.has_astray.Goals as goal
+
+pub returns-then-is_astray : goal.returns-then-is_astray
+returns-then-is_astray c = rw (sym c.is_astray.ensures ∙ c.if-is_astray.true)
+
+pub returns : goal.returns
+returns c = rw (sym c.is_astray.ensures ∙ c.if-is_astray.false) c.is_astray-2.ensures

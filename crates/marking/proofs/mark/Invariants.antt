@@ -1,0 +1,17 @@
+-- `marking::mark` meets its contract. The loop's invariant: what is marked above node v leads to what is marked (`Marking`). Assumes nothing.
+use Prim.Native.Nat.{◌+◌, ◌≤◌}
+use mathlib.Core.Path.{◌≡◌, refl}
+use native.Mathlib.Omega.{arith}
+use lib.ListN.{length}
+use borrow.Author.Rules.{rules}
+use Rattle.words.specs.Words.{word_at}
+use Rattle.cutting.specs.Cut.{extended}
+use Rattle.cutting.proofs.Extended.{room_same}
+use Rattle.marking.proofs.Marking.{Marking, marking_start, marking_down, marking_end}
+use Rattle.marking.proofs.mark.Given as goal
+
+abbrev pub invariant-loop-v : goal.invariant-loop-v
+invariant-loop-v l = (l.v ≤ l.nodes + l.n + l.n) × (length l.map ≡ length l.initial.map) × Marking (extended (word_at l.table) l.nodes l.more) (word_at l.map) (l.nodes + l.n + l.n) l.top l.v
+
+abbrev pub decreases-loop-v : goal.decreases-loop-v
+decreases-loop-v l = l.v

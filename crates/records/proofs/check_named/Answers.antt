@@ -1,0 +1,20 @@
+-- `records::check_named` meets its contract: where the records pass, rule 9 by the marks is rule 9. Assumes nothing.
+use mathlib.Core.Path.{sym, ap, ◌∙◌}
+use native.Mathlib.Omega.{arith}
+use borrow.Author.Rules.{rules}
+use Rattle.diagram.specs.Answer.{and_then}
+use Rattle.diagram.specs.Rules.{check_diagram}
+use Rattle.rules.specs.Refusals.{verdict_as}
+use Rattle.records.proofs.Marks.{marks_names}
+use Rattle.records.proofs.check_named.Goals as goal
+
+pub returns-in_default : goal.returns-in_default
+unfolding check_diagram and_then
+returns-in_default c = rw (← c.check_records-records.ensures.0, c.enum_told-in_default-1.given.1)
+
+pub returns : goal.returns
+unfolding check_diagram and_then
+returns c =
+    let e = c.check_records-records.ensures in
+    let told = ap verdict_as c.enum_told.given.1 in
+    rw (sym e.0 ∙ told) (c.check_marks.ensures ∙ marks_names _ _ _ (e.2 told) (omega arith))

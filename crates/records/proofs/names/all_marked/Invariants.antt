@@ -1,0 +1,16 @@
+-- `records::names::all_marked` meets its contract. The loop's invariant: nodes 1 to k have marks, if `all` says so. Assumes nothing.
+use Prim.Native.Nat.{ℕ, ◌-◌, ◌≤◌}
+use mathlib.Core.Path.{◌≡◌, refl, sym, subst}
+use mathlib.Core.Bool.{true, true≢false}
+use native.Mathlib.Omega.{arith}
+use borrow.Author.Rules.{rules}
+use Rattle.diagram.specs.Answer.{pass, each}
+use Rattle.records.specs.Inner.{check_marks}
+use Rattle.records.proofs.Marks.{marks_passed}
+use Rattle.records.proofs.names.all_marked.Given as goal
+
+abbrev pub invariant-loop-k : goal.invariant-loop-k
+invariant-loop-k l = (l.k ≤ l.last) × (l.all ≡ true → check_marks l.marks l.k ≡ pass)
+
+abbrev pub decreases-loop-k : goal.decreases-loop-k
+decreases-loop-k l = l.last - l.k

@@ -1,0 +1,20 @@
+-- `records::pass::check_records` meets its contract. The loop's invariant: the first k records pass, and what they name is marked. Assumes nothing.
+use Prim.Native.Nat.{ℕ, ◌+◌, ◌-◌, ◌/◌, ◌≤◌, ◌<◌}
+use mathlib.Core.Path.{◌≡◌, refl, sym, subst, ◌∙◌}
+use native.Mathlib.Omega.{arith}
+use lib.ListN.{length}
+use borrow.Author.Rules.{rules}
+use Rattle.words.specs.Words.{word_at}
+use Rattle.diagram.specs.Answer.{pass, each}
+use Rattle.diagram.specs.Rules.{check_record, check_records}
+use Rattle.records.specs.Inner.{Marked}
+use Rattle.rules.proofs.Turns.{turn_refused, turn_passed}
+use Rattle.records.proofs.Turns.{names_lower}
+use Rattle.records.proofs.Marks.{marks_next}
+use Rattle.records.proofs.pass.check_records.Given as goal
+
+abbrev pub invariant-loop-k : goal.invariant-loop-k
+invariant-loop-k l = (l.k ≤ l.nodes) × (check_records (word_at l.table) l.n l.k ≡ pass) × (length l.marks ≡ length l.initial.marks) × Marked l.marks l.k (word_at l.table)
+
+abbrev pub decreases-loop-k : goal.decreases-loop-k
+decreases-loop-k l = l.nodes - l.k

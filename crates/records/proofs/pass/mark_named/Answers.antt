@@ -1,0 +1,16 @@
+-- `records::pass::mark_named` meets its contract. Assumes nothing.
+use Prim.Native.Nat.{ℕ}
+use mathlib.Core.Path.{ap₂}
+use native.Mathlib.Omega.{arith}
+use lib.ListN.{set, length-set}
+use borrow.Author.Rules.{rules}
+use Rattle.records.proofs.pass.mark_named.Goals as goal
+
+pub returns : goal.returns
+returns c = ap₂ (λ (i j : ℕ). set (set c.args.marks.now i 1) j 1) c.node-a.ensures c.node-b.ensures
+
+pub bounds-marks-b : goal.bounds-marks-b
+bounds-marks-b c = simp length-set (omega arith)
+
+pub shape_of-marks : goal.shape_of-marks
+shape_of-marks c = simp length-set
