@@ -2,11 +2,13 @@
 #![tactic(auto)]
 
 use programs::{say, say_number};
+use std::io;
 
-fn main() {
+fn main(rt: HostRuntime) -> io::Result<()> {
     let table = pascal::binomials();
     for at in 0..2080 {
-        say_number(b"", table[at]);
-        say(b"\n");
+        say_number(&rt, b"", table[at])?;
+        say(&rt, b"\n")?;
     }
+    Ok(())
 }

@@ -7,6 +7,8 @@ use checking::{Counted, Tested};
 use diagram::{Rank, Setup};
 use programs::{say, say_number};
 use ranking::{Ranked, Unranked};
+use std::io;
+use std::io::Print;
 
 // Table A.
 const A: [u64; 4] = [
@@ -339,7 +341,7 @@ fn total_differs(counted: Counted, permitted: u64) -> u64
 }
 
 // A table's line: what the reader permits, and in how many points the library differs.
-fn compare(name: &[u8], table: &[u8]) {
+fn compare<P: Print>(rt: &P, name: &[u8], table: &[u8]) -> io::Result<()> {
     let root = lower(word(table, 0));
     let setups = setups_below(upper(word(table, 0)));
     let places = table.len() / 8;
@@ -350,12 +352,13 @@ fn compare(name: &[u8], table: &[u8]) {
         + setups_differ(table, root, setups)
         + ranks_differ(table, root, setups)
         + places_differ(table, &sheet, places);
-    say(name);
-    say_number(b": ", permitted);
-    say_number(b" permitted, ", setups);
-    say_number(b" setups, their ranks and ", places as u64);
-    say_number(b" places compared, ", differences);
-    say(b" differences\n");
+    say(rt, name)?;
+    say_number(rt, b": ", permitted)?;
+    say_number(rt, b" permitted, ", setups)?;
+    say_number(rt, b" setups, their ranks and ", places as u64)?;
+    say_number(rt, b" places compared, ", differences)?;
+    say(rt, b" differences\n")?;
+    Ok(())
 }
 
 // Byte i of a row of words, most significant first.
@@ -378,31 +381,38 @@ fn bytes_of(words: &[u64]) -> [u8; 128] {
 }
 
 // The line of the table in the first `length` bytes.
-fn compare_front(name: &[u8], bytes: &[u8], length: usize) {
+fn compare_front<P: Print>(rt: &P, name: &[u8], bytes: &[u8], length: usize) -> io::Result<()> {
     if length <= bytes.len() {
-        compare(name, &bytes[0..length]);
+        compare(rt, name, &bytes[0..length])?;
     }
+    Ok(())
 }
 
-fn compare_words(name: &[u8], words: &[u64]) {
+fn compare_words<P: Print>(rt: &P, name: &[u8], words: &[u64]) -> io::Result<()> {
     let bytes = bytes_of(words);
     if words.len() <= 16 {
-        compare_front(name, &bytes, 8 * words.len());
+        compare_front(rt, name, &bytes, 8 * words.len())?;
     }
+    Ok(())
 }
 
-fn main() {
-    compare_words(b"A", &A);
-    compare_words(b"A complemented", &[0x0C00000060000007, A[1], A[2], A[3]]);
-    compare_words(b"A, part 0 of 2", &FIRST_HALF);
-    compare_words(b"A, part 1 of 2", &SECOND_HALF);
-    compare_words(b"n = 10, all", &[0x2800000000000000]);
-    compare_words(b"n = 3, none", &[0x0C00000000000001]);
-    compare_words(b"n = 0, all", &[0x0000000000000000]);
-    compare_words(b"n = 0, none", &[0x0000000000000001]);
-    compare_words(b"long gaps", &GAPS);
-    compare_words(b"parity", &PARITY);
-    compare_words(b"random, n = 4", &RANDOM_4);
-    compare_words(b"random, n = 5", &RANDOM_5);
-    compare_words(b"random, n = 6", &RANDOM_6);
+fn main(rt: HostRuntime) -> io::Result<()> {
+    compare_words(&rt, b"A", &A)?;
+    compare_words(
+        &rt,
+        b"A complemented",
+        &[0x0C00000060000007, A[1], A[2], A[3]],
+    )?;
+    compare_words(&rt, b"A, part 0 of 2", &FIRST_HALF)?;
+    compare_words(&rt, b"A, part 1 of 2", &SECOND_HALF)?;
+    compare_words(&rt, b"n = 10, all", &[0x2800000000000000])?;
+    compare_words(&rt, b"n = 3, none", &[0x0C00000000000001])?;
+    compare_words(&rt, b"n = 0, all", &[0x0000000000000000])?;
+    compare_words(&rt, b"n = 0, none", &[0x0000000000000001])?;
+    compare_words(&rt, b"long gaps", &GAPS)?;
+    compare_words(&rt, b"parity", &PARITY)?;
+    compare_words(&rt, b"random, n = 4", &RANDOM_4)?;
+    compare_words(&rt, b"random, n = 5", &RANDOM_5)?;
+    compare_words(&rt, b"random, n = 6", &RANDOM_6)?;
+    Ok(())
 }

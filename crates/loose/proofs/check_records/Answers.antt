@@ -17,12 +17,12 @@ check_record-verdict-requires c = (omega arith, omega (arith, c.loop-k-test.true
 
 pub loop-k-preserved : goal.loop-k-preserved
 loop-k-preserved c =
-    (omega (arith, c.loop-k-test.true), turn_passed (check_loose_record _ _ _) _ _ c.loop-k.invariant.1 c.check_record-verdict.ensures c.enum_told.given.1)
+    (omega (arith, c.loop-k-test.true), turn_passed (check_loose_record _ _ _) _ _ c.loop-k.invariant.1 c.check_record-verdict.ensures c.in-Passed.is)
 
 pub returns-in_default : goal.returns-in_default
 unfolding check_loose_records
 returns-in_default c =
-    (turn_refused (check_loose_record _ _ _) _ _ c.loop-k.invariant.1 c.check_record-verdict.ensures _ _ c.loop-k-test.true c.enum_told-in_default-1.given.1).0
+    (turn_refused (check_loose_record _ _ _) _ _ c.loop-k.invariant.1 c.check_record-verdict.ensures _ _ c.loop-k-test.true c.in_default.is).0
 
 pub returns : goal.returns
 unfolding check_loose_records

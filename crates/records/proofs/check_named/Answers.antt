@@ -10,11 +10,11 @@ use Rattle.records.proofs.check_named.Goals as goal
 
 pub returns-in_default : goal.returns-in_default
 unfolding check_diagram and_then
-returns-in_default c = rw (← c.check_records-records.ensures.0, c.enum_told-in_default-1.given.1)
+returns-in_default c = rw (← c.check_records-records.ensures.0, c.in_default.is)
 
 pub returns : goal.returns
 unfolding check_diagram and_then
 returns c =
     let e = c.check_records-records.ensures in
-    let told = ap verdict_as c.enum_told.given.1 in
+    let told = ap verdict_as c.in-Passed.is in
     rw (sym e.0 ∙ told) (c.check_marks.ensures ∙ marks_names _ _ _ (e.2 told) (omega arith))

@@ -24,7 +24,7 @@ pub returns-in_default : goal.returns-in_default
 unfolding check_records
 returns-in_default c =
     let i = c.loop-k.invariant in
-    let t = turn_refused (check_record _ _) _ _ i.1 c.check_record-verdict.ensures _ _ c.loop-k-test.true c.enum_told-in_default-1.given.1 in
+    let t = turn_refused (check_record _ _) _ _ i.1 c.check_record-verdict.ensures _ _ c.loop-k-test.true c.in_default.is in
     (t.0, i.2, λ e. absurd (t.1 e))
 
 -- the record passed, so each node that it names has a mark
@@ -35,7 +35,7 @@ found c =
     let p = c.requires in
     let i = c.loop-k.invariant in
     let l = c.loop-k-test.true in
-    let e = turn_passed (check_record _ _) _ _ i.1 c.check_record-verdict.ensures c.enum_told.given.1 in
+    let e = turn_passed (check_record _ _) _ _ i.1 c.check_record-verdict.ensures c.in-Passed.is in
     let n = names_lower _ _ _ _ _ _ _ e c.word_at-word.ensures c.of.ensures in
     (omega arith, omega arith, e)
 

@@ -1,0 +1,19 @@
+-- `reducing::link` meets its contract. The loop's invariant: the nodes before i are in their lists (`Linked`). Assumes nothing.
+use Prim.Native.Nat.{◌+◌, ◌-◌, ◌*◌, ◌≤◌}
+use mathlib.Core.Path.{◌≡◌, refl, ◌∙◌}
+use native.Mathlib.Omega.{arith}
+use lib.ListN.{length}
+use borrow.Author.Rules.{rules}
+use Rattle.words.specs.Words.{word_at}
+use Rattle.words.proofs.Stores.{stored, stored_long}
+use Rattle.reducing.specs.Inner.{height_of}
+use Rattle.reducing.specs.Steps.{Linked}
+use Rattle.reducing.proofs.Lists.{linked_none, turn_height, head_low, linked_next}
+use Rattle.reducing.proofs.link.Given as goal
+
+abbrev pub invariant-loop-i : goal.invariant-loop-i
+invariant-loop-i l =
+    (l.i ≤ l.count) × (length l.sheet ≡ length l.initial.sheet) × Linked (height_of (word_at l.initial.sheet) l.p) (word_at l.initial.sheet) (word_at l.sheet) l.heads l.p l.i
+
+abbrev pub decreases-loop-i : goal.decreases-loop-i
+decreases-loop-i l = l.count - l.i

@@ -1,0 +1,18 @@
+-- `reducing::reduce` meets its contract. The loop's invariant: the nodes up to height h are numbered (`Staged`), whatever nodes stood there before. Assumes nothing.
+use Prim.Native.Nat.{◌+◌, ◌-◌, ◌≤◌}
+use mathlib.Core.Path.{◌≡◌, refl, ◌∙◌}
+use native.Mathlib.Omega.{arith}
+use lib.ListN.{length}
+use borrow.Author.Tests.{leb-true}
+use Rattle.words.specs.Words.{word_at}
+use Rattle.reducing.specs.Steps.{Nodes, Staged}
+use Rattle.reducing.proofs.Stages.{nodes_of, Begin, heights_low, staged_first, staged_ready, staged_numbers, staged_few}
+use Rattle.reducing.proofs.reduce.Given as goal
+
+abbrev pub invariant-loop-h : goal.invariant-loop-h
+invariant-loop-h l =
+    (l.h ≤ l.n) × (l.c ≤ 65535) × (length l.sheet ≡ length l.initial.sheet)
+    × ((D : Nodes) → D.count ≡ l.count → Staged D (word_at l.initial.sheet) l.p 0 0 → Begin D l.heads → Staged D (word_at l.sheet) l.p l.c l.h)
+
+abbrev pub decreases-loop-h : goal.decreases-loop-h
+decreases-loop-h l = l.n - l.h
