@@ -8,7 +8,7 @@ use Rattle.diagram.specs.Format.{Words}
 use Rattle.numbering.specs.Renewal.{normal}
 use Rattle.numbering.specs.Numbered.{Good, dropped, made}
 use Rattle.sorting.specs.Sorting.{Strict, Among}
-use Rattle.reducing.specs.Inner.{records_of}
+use Rattle.reducing.specs.Inner.{edge_of, records_of}
 use Rattle.reducing.specs.Steps.{Nodes, last_of, Findable, Countable, Counted}
 use Rattle.reducing.proofs.Lists.{cursor_first, none_behind, walk_falls, cursor_next, walked}
 
@@ -67,7 +67,7 @@ module _ (D : Nodes) (W₀ : ℕ → ℕ) (P c end h first : ℕ) (R : Countable
         let F = R.nodes i inside (K.cursor.at turn) in
         record {
           strict = λ a b l m n. omega (arith, word_stays a (omega arith), word_stays b n, F.strict a b l m n);
-          small = λ b. elim b [ true ↦ rw then_stays (F.small true) | false ↦ rw else_stays (F.small false) ];
+          small = λ b. elim b as (λ b. edge_of W P b i < 131072) [ true ↦ rw then_stays (F.small true) | false ↦ rw else_stays (F.small false) ];
           there = rw (then_stays, else_stays)
               (λ n. let a = F.there n in record { at = a.at; from = a.from; to = a.to; is = word_stays a.at a.to ∙ a.is });
         }

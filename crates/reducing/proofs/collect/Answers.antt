@@ -54,7 +54,7 @@ loop-next-preserved c =
     let e = c.renew.ensures in (
       e.0 ∙ inv.0,
       λ D R. collected_turn D _ _ _ _ _ R _ _ _ (inv.1 D R) c.loop-next-test.true _ e.1 _ c.word_at-next.ensures _ _ e.2
-          (elim c.if-renew.branch [ then-renew w ↦ inl (w.if-renew.true, w.1) | else-renew w ↦ inr (w.if-renew.false, w.1) ]),
+          (elim c.if-renew.branch [ then-renew w ↦ inl (w.if-renew.true, w.end-is) | else-renew w ↦ inr (w.if-renew.false, w.end-is) ]),
     )
 
 pub returns : goal.returns

@@ -35,7 +35,7 @@ level-c-requires c =
 -- the nodes that stood there are numbered up to the next height
 raised : (c : After-level-c) (D : Nodes) → D.count ≡ c.args.count
     → Staged D (word_at c.loop-h.sheet) c.args.p c.loop-h.c c.loop-h.h
-    → Begin D c.link.new.heads.0 → Staged D (word_at c.level-c.new.sheet) c.args.p c.level-c.result (c.loop-h.h + 1)
+    → Begin D c.link.new.heads → Staged D (word_at c.level-c.new.sheet) c.args.p c.level-c.result (c.loop-h.h + 1)
 raised c D q S B =
     let p = c.requires in
     let t = c.loop-h-test.true in

@@ -1,0 +1,17 @@
+-- `compiling::copy_records` meets its contract. The loop's invariant: the first k records are copied (`HoldsTable`). Assumes nothing.
+use Prim.Native.Nat.{◌+◌, ◌-◌, ◌*◌, ◌≤◌}
+use mathlib.Core.Path.{◌≡◌, refl, ◌∙◌}
+use native.Mathlib.Omega.{arith}
+use lib.ListN.{length}
+use borrow.Author.Rules.{rules}
+use Rattle.words.specs.Words.{word_at}
+use Rattle.words.proofs.Stores.{stored, stored_long}
+use Rattle.compiling.specs.Inner.{HoldsTable}
+use Rattle.compiling.proofs.Copying.{copied_none, copied_next}
+use Rattle.compiling.proofs.copy_records.Given as goal
+
+abbrev pub invariant-loop-k : goal.invariant-loop-k
+invariant-loop-k l = (l.k ≤ l.count) × (length l.out ≡ length l.initial.out) × HoldsTable (word_at l.sheet) l.k (word_at l.initial.out 0) l.out
+
+abbrev pub decreases-loop-k : goal.decreases-loop-k
+decreases-loop-k l = l.count - l.k
