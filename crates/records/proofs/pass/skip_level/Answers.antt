@@ -34,7 +34,7 @@ found : (c : After-of) → let w = word_at c.args.table.now in let k = c.args.k 
 found c =
     let p = c.requires in
     let i = c.loop-at.invariant in
-    let f = c.in_level.ensures (not-false _ c.if-not-in_level.false) in
+    let f = c.in_level.ensures c.if-not-in_level.false in
     let n = level_next _ _ _ _ _ _ _ _ _ _ _ _ p.0 (omega arith) c.height_at-h.ensures.0 c.height_at.ensures.0
     c.if-height_at-h.false c.new-first.ensures c.word-limit.ensures i.0 i.2 i.3 c.word_at-word.ensures f c.of.ensures i.4 in
     (omega (arith, f.ascends), omega arith, omega arith, n.2)

@@ -1,0 +1,17 @@
+-- `exclusion::way::smallest_under` meets its contract. The loop's invariant: the settings chosen so far. Assumes nothing.
+use Prim.Native.Nat.{◌/◌}
+use mathlib.Core.Path.{refl, ap, ◌∙◌}
+use mathlib.Core.Logic.{inl, inr}
+use native.Mathlib.Omega.{arith}
+use lib.Dec.{eqb}
+use borrow.Author.Rules.{rules}
+use Rattle.words.specs.Words.{word_at}
+use Rattle.diagram.specs.Format.{height}
+use Rattle.exclusion.proofs.Seeking.{Seeks, seeks_first, turns, seeks_off, seeks_on, sought}
+use Rattle.exclusion.proofs.way.smallest_under.Given as goal
+
+abbrev pub invariant-loop-edge : goal.invariant-loop-edge
+invariant-loop-edge l = Seeks l.table l.initial.edge.value l.edge.value l.x.0
+
+abbrev pub decreases-loop-edge : goal.decreases-loop-edge
+decreases-loop-edge l = height (word_at l.table) (l.edge.value / 2)

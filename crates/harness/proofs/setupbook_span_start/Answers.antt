@@ -1,0 +1,16 @@
+-- `harness::setupbook_span_start` meets its contract. Assumes nothing.
+use mathlib.Core.Path.{sym, ap, ◌∙◌}
+use borrow.Author.Rules.{rules}
+use Rattle.rules.proofs.Packing.{packed_value, packed_refusal}
+use Rattle.division.specs.Answers.{spanned_as}
+use Rattle.division.proofs.Bounds.{spanning_place}
+use Rattle.harness.proofs.setupbook_span_start.Goals as goal
+
+pub pack_refusal-requires : goal.pack_refusal-requires
+pack_refusal-requires c = spanning_place _ _ _ _ _ _ (sym c.span-spanned.ensures.0 ∙ ap spanned_as c.in-Refused.is)
+
+pub returns-in-Part : goal.returns-in-Part
+returns-in-Part c = let e = c.span-spanned.ensures in (packed_value _ _ _ e.0 _ (ap spanned_as c.in-Part.is), e.1)
+
+pub returns-in-Refused : goal.returns-in-Refused
+returns-in-Refused c = let e = c.span-spanned.ensures in (packed_refusal _ _ _ e.0 _ _ _ (ap spanned_as c.in-Refused.is) c.pack_refusal.ensures, e.1)

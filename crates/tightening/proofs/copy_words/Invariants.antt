@@ -1,0 +1,16 @@
+-- `tightening::copy_words` meets its contract. The loop's invariant: the first k words are copied (`Copied`). Assumes nothing.
+use Prim.Native.Nat.{◌+◌, ◌-◌, ◌*◌, ◌≤◌}
+use mathlib.Core.Path.{◌≡◌, refl, subst, ◌∙◌}
+use native.Mathlib.Omega.{arith}
+use borrow.Author.Rules.{rules}
+use lib.ListN.{length}
+use Rattle.words.proofs.Stores.{stored, stored_long}
+use Rattle.tightening.specs.Inner.{Copied}
+use Rattle.tightening.proofs.Copies.{copied_next}
+use Rattle.tightening.proofs.copy_words.Given as goal
+
+abbrev pub invariant-loop-k : goal.invariant-loop-k
+invariant-loop-k l = (l.k ≤ l.m) × (length l.out ≡ length l.initial.out) × Copied l.table l.out l.k
+
+abbrev pub decreases-loop-k : goal.decreases-loop-k
+decreases-loop-k l = l.m - l.k
