@@ -11,8 +11,7 @@ use Rattle.diagram.proofs.Accept.{check_accepted}
 use Rattle.checking.specs.Answers.{checked_as}
 use Rattle.checking.specs.Operations.{checking, checking_for}
 use Rattle.checking.proofs.Bounds.{shape_fits}
-use Rattle.diagram_dot.proofs.draw.Statement.{statement}
-use Rattle.diagram_dot.proofs.draw.Tie as tie
+use Rattle.diagram_dot.proofs.draw.Goals as goal
 
 table_holds : (t s : List ℕ) (n N : ℕ) → ((i : ℕ) → get_or t i 0 < 256) → value (n, N) ≡ checking t s → HasDiagram t n N
 unfolding checking_for
@@ -20,13 +19,6 @@ table_holds t s n N f e =
     let A = (check_accepted t (length s / 8) (λ N. N + 1) n N (sym e)).0 in
     record { long = omega (arith, A.long); few = A.few; few_settings = (shape_fits t s n N f e).0; ordered = A.proper.reduced.ordered }
 
-draw-accepted-requires : tie.Need-draw-accepted-requires
-draw-accepted-requires c κs =
-    let a = c.before.before.before.before in
-    table_holds _ _ _ _ (λ i. omega (arith, a.before.before.shared-slice-known.given i)) (sym (ap checked_as c.before.checked.given.1) ∙ a.check.ensures.0)
-
-pub draw-spec : {M : Type 1} → statement M
-draw-spec =
-    tie.close
-    (tie.spec (λ c. search rules) (λ c κs. search rules) (λ c. search rules) draw-accepted-requires (λ c. search rules)
-    (λ c κs. search rules) (λ c. search rules) (λ c. search rules))
+pub draw_accepted-requires : goal.draw_accepted-requires
+draw_accepted-requires g c =
+    table_holds _ _ _ _ (λ i. omega (arith, c.type_inv.table i)) (sym (ap checked_as c.in-Table.is) ∙ c.check-checked.ensures.0)

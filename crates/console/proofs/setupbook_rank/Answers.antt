@@ -1,0 +1,16 @@
+-- `console::setupbook_rank` meets its contract. Assumes nothing.
+use mathlib.Core.Path.{sym, ap, ◌∙◌}
+use borrow.Author.Rules.{rules}
+use Rattle.rules.proofs.Packing.{packed_value, packed_refusal}
+use Rattle.ranking.specs.Answers.{ranked_as}
+use Rattle.ranking.proofs.Bounds.{ranking_place}
+use Rattle.console.proofs.setupbook_rank.Goals as goal
+
+pub pack_refusal-requires : goal.pack_refusal-requires
+pack_refusal-requires c = ranking_place _ _ _ _ _ (sym c.rank-ranked.ensures.0 ∙ ap ranked_as c.in-Refused.is)
+
+pub returns-in-At : goal.returns-in-At
+returns-in-At c = let e = c.rank-ranked.ensures in (packed_value _ _ _ e.0 _ (ap ranked_as c.in-At.is), e.1)
+
+pub returns-in-Refused : goal.returns-in-Refused
+returns-in-Refused c = let e = c.rank-ranked.ensures in (packed_refusal _ _ _ e.0 _ _ _ (ap ranked_as c.in-Refused.is) c.pack_refusal.ensures, e.1)
