@@ -33,6 +33,7 @@ calls_kept c (Memᴰ.tail (Memᴰ.tail (Memᴰ.head e))) = rw e (call_kept 1 515
 calls_kept c (Memᴰ.tail (Memᴰ.tail (Memᴰ.tail (Memᴰ.head e)))) = rw e (call_kept 2 515 48 (refusal 15 0) (part_2 515 48 (lit≤ tt)))
 calls_kept c (Memᴰ.tail (Memᴰ.tail (Memᴰ.tail (Memᴰ.tail (Memᴰ.head e))))) = rw e (call_kept 0 514 48 (refusal 10 0) (places_short 514 48 0 (lit< tt)))
 calls_kept c (Memᴰ.tail (Memᴰ.tail (Memᴰ.tail (Memᴰ.tail (Memᴰ.tail (Memᴰ.head e)))))) = rw e (call_kept 0 515 32 (value A₀) (part_0 515 32 (lit≤ tt) (lit≤ tt)))
+calls_kept c (Memᴰ.tail (Memᴰ.tail (Memᴰ.tail (Memᴰ.tail (Memᴰ.tail (Memᴰ.tail e)))))) = elim e [ ]
 
 -- so demand 3 holds of the list
 pub A-divided : Division A 3 3 2 calls

@@ -297,7 +297,7 @@ fn ruled_out<P: Print>(rt: &P, name: &[u8], table: &[u8], x: u64) -> io::Result<
     say_number(rt, b", setup ", x)?;
     say(rt, b":")?;
     let mut sheet = [0u8; 32];
-    let ruled_out = exclusion::ruled_out(rt, table, Setup(x), &mut sheet)?;
+    let ruled_out = exclusion::ruled_out(table, Setup(x), &mut sheet);
     match ruled_out {
         RuledOut::Permitted => say(rt, b" permitted")?,
         RuledOut::Empty => say(rt, b" p = 0")?,
@@ -388,7 +388,8 @@ fn sizes<P: Print>(rt: &P, k: u64, shown: u64) -> io::Result<()> {
 fn say_word<P: Print>(rt: &P, bytes: &[u8], k: usize) -> io::Result<()> {
     if k < bytes.len() / 8 {
         say(rt, b" ")?;
-        io::print_hex(STDOUT_FILENO, words::word_at(bytes, k), 16);
+        let word = words::word_at(bytes, k);
+        print!(rt; "{word:016x}")?;
     }
     Ok(())
 }
