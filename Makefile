@@ -11,7 +11,7 @@ sources = crates.txt $(shell find crates -name '*.rt' -o -name '*.antt')
 all: $(archive)
 
 $(archive): $(sources)
-	rt staticlib console
+	tools/build console
 
 install: all
 	install -d $(root)/include $(root)/lib/pkgconfig

@@ -7,7 +7,7 @@ use native.Mathlib.Omega.{arith}
 use lib.Dec.{eqb}
 use borrow.Author.Tests.{eqb-true, eq-eqb, not-false}
 use Rattle.words.proofs.Cases.{less, same, more, tri, both_true}
-use Rattle.diagram.specs.Count.{smallest, some_below}
+use Rattle.diagram.specs.Count.{some_below}
 use Rattle.diagram.proofs.AnswerLaws.{some_at, some_found}
 use Rattle.diagram.proofs.Select.{Least, smallest_is, smallest_none}
 use Rattle.diagram.proofs.Digits.{above}

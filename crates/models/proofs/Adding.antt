@@ -1,5 +1,5 @@
 -- The counts of models, one after the other, in the terms of the code. Assumes nothing.
-use Prim.Native.Nat.{ℕ, suc, ◌+◌, ◌-◌, ◌*◌, ◌^◌, ◌≤◌, ◌<◌}
+use Prim.Native.Nat.{ℕ, ◌+◌, ◌*◌, ◌^◌, ◌≤◌, ◌<◌}
 use mathlib.Core.Path.{◌≡◌, refl, sym, ap, ◌∙◌}
 use mathlib.Core.Bool.{Bool}
 use mathlib.Core.List.{List}
@@ -11,7 +11,7 @@ use Rattle.diagram.specs.Count.{count_below}
 use Rattle.pascal.specs.Ones.{sum}
 use Rattle.counting.specs.Inner.{CountsUnder}
 use Rattle.models.specs.Pairs.{sum_counts}
-use Rattle.models.specs.Inner.{models_of, Rooted, RootedIn, AddsUp}
+use Rattle.models.specs.Inner.{models_of, Rooted, AddsUp}
 
 -- no model, and one more
 pub sum_none : (n : ℕ) (P : ℕ → ℕ → Bool) → sum_counts n P 0 ≡ 0

@@ -1,8 +1,8 @@
 -- Pairs of model and setup in order: counting them model by model. Assumes nothing.
 use Prim.Native.Nat.{ℕ, zero, suc, ◌+◌, ◌*◌, ◌/◌, ◌%◌, ◌^◌, ◌≤◌, ◌<◌}
-use mathlib.Core.Path.{◌≡◌, refl, sym, ap, ap₂, subst, ◌∙◌}
+use mathlib.Core.Path.{◌≡◌, ap, ◌∙◌}
 use mathlib.Core.Bool.{Bool, true}
-use native.Mathlib.Nat.{div-eq_of_lt, mod-eq_of_lt, one-le-pow, suc-mul, zero-mul, add-zero, div-add-mod', mod-lt, div-lt_iff_lt-mul, mul-add-div_right, mul-add-mod_self_right}
+use native.Mathlib.Nat.{div-eq_of_lt, mod-eq_of_lt, one-le-pow, suc-mul, zero-mul, add-zero, div-add-mod', div-lt_iff_lt-mul, mul-add-div_right, mul-add-mod_self_right}
 use native.Mathlib.Omega.{arith}
 use lib.Dec.{lit<}
 use Rattle.diagram.specs.Count.{count_below}

@@ -16,7 +16,6 @@ use Rattle.diagram.proofs.CountLaws.{indicator_le}
 use Rattle.diagram.proofs.Paths.{under_always, under_never}
 use Rattle.walking.specs.Inner.{Forks}
 use Rattle.walking.proofs.Forking.{own_side}
-use Rattle.distances.specs.Distance.{distance}
 use Rattle.distances.specs.Inner.{Apart, Reached}
 use Rattle.distances.proofs.Distances.{dist_le, dist_self}
 use Rattle.distances.proofs.Looking.{edge_looks, side_looks}

@@ -1,5 +1,5 @@
 -- What rows stand for: the sink, flags, and a setting of which half of the setups are on. Assumes nothing.
-use Rattle.std.proofs.Common.{◌≡◌, ℕ, zero, suc, ◌+◌, ◌-◌, ◌/◌, ◌%◌, ◌^◌, ◌<◌, ◌≤◌, Bool, true, not, sym, refl, ap, ◌∙◌, subst, ap₂, le_refl, arith}
+use Rattle.std.proofs.Common.{◌≡◌, ℕ, zero, suc, ◌+◌, ◌/◌, ◌%◌, ◌^◌, ◌<◌, ◌≤◌, Bool, true, not, sym, refl, ap, ◌∙◌, subst, ap₂, le_refl, arith}
 use mathlib.Core.Bool.{not-not}
 use Rattle.words.proofs.Cases.{less, same, more, tri}
 use Rattle.diagram.specs.Meaning.{flip}

@@ -1,13 +1,12 @@
-use Prim.Native.Nat.{◌+◌, ◌-◌, ◌*◌, ◌%◌, ◌^◌, ◌≤◌, ◌<◌}
+use Prim.Native.Nat.{◌+◌, ◌*◌, ◌%◌, ◌^◌, ◌≤◌, ◌<◌}
 use mathlib.Core.Path.{◌≡◌, refl, ◌∙◌}
-use mathlib.Core.Logic.{inl, inr, ⊎_elim}
+use mathlib.Core.Logic.{inl, inr}
 use native.Mathlib.Omega.{arith}
 use lib.ListN.{length}
 use borrow.Author.Rules.{rules}
-use Rattle.words.specs.Words.{word_at}
 use Rattle.words.proofs.Stores.{stored, stored_long}
 use Rattle.carrying.specs.Words.{Carries}
-use Rattle.carrying.proofs.Placing.{Placing, placing_first, turn_carries, turn_room, placing_next}
+use Rattle.carrying.proofs.Placing.{placing_first, turn_carries, turn_room, placing_next}
 use Rattle.carrying.proofs.number_carried.Goals as goal
 use Rattle.carrying.proofs.number_carried.Goals.{After-put_word, After-word_at-word, In-loop-k, Joined-last-key, else-last-key, then-last-key}
 

@@ -1,7 +1,6 @@
 -- `carrying::word_of` meets its contract. Assumes nothing.
 use Prim.Native.Nat.{◌<◌}
 use native.Mathlib.Omega.{arith}
-use borrow.Author.Rules.{rules}
 use Rattle.diagram.proofs.Edges.{turn_lt}
 use Rattle.carrying.specs.Words.{key_of, carry}
 use Rattle.carrying.proofs.word_of.Goals as goal

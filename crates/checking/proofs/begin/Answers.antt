@@ -1,6 +1,5 @@
 -- `checking::begin` meets its contract: N + 1 places, as the code has them. Assumes nothing.
 use native.Mathlib.Omega.{arith}
-use borrow.Author.Rules.{rules}
 use Rattle.checking.proofs.Lending.{begins_for}
 use Rattle.checking.proofs.begin.Goals as goal
 

@@ -4,7 +4,6 @@ use mathlib.Core.Path.{refl}
 use mathlib.Core.Bool.{false}
 use native.Mathlib.Omega.{arith}
 use lib.ListN.{length}
-use borrow.Author.Rules.{rules}
 use Rattle.diagram.proofs.Accept.{Headed}
 use Rattle.rules.proofs.Headers.{need_fits}
 use Rattle.checking.proofs.Compose.{header_refused, header_holds, headed_places, diagram_passed, diagram_refused, diagram_kept, diagram_zeroed}

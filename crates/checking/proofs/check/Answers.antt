@@ -1,7 +1,6 @@
 -- `checking::check` meets its contract: as every operation begins, and a blank sheet. Assumes nothing.
 use mathlib.Core.Path.{refl, sym}
 use native.Mathlib.Omega.{arith}
-use borrow.Author.Rules.{rules}
 use Rattle.checking.proofs.Accepting.{checking_is, few_nodes, shape_nodes}
 use Rattle.checking.proofs.Lending.{handed_back, places_left, blanked}
 use Rattle.checking.proofs.check.Goals as goal

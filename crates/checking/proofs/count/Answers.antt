@@ -1,7 +1,6 @@
 -- `checking::count` meets its contract: the root edge's count is the total, and the counts stay. Assumes nothing.
 use Prim.Native.Nat.{◌^◌}
 use mathlib.Core.Path.{sym, ap, subst}
-use borrow.Author.Rules.{rules}
 use Rattle.diagram.specs.Count.{count_below, total}
 use Rattle.diagram.specs.Answer.{value}
 use Rattle.counting.specs.Inner.{Countable}

@@ -1,6 +1,5 @@
 -- `checking::refusal_of` meets its contract. Assumes nothing.
 use mathlib.Core.Path.{ap, subst}
-use borrow.Author.Rules.{rules}
 use Rattle.checking.specs.Answers.{checked_as}
 use Rattle.checking.specs.Inner.{IsRefused}
 use Rattle.checking.proofs.refusal_of.Goals as goal

@@ -1,7 +1,6 @@
 -- `checking::test` meets its contract: as every operation begins, then `test_setup` from the root edge. Assumes nothing.
 use mathlib.Core.Path.{refl, sym, subst}
 use native.Mathlib.Omega.{arith}
-use borrow.Author.Rules.{rules}
 use Rattle.checking.specs.Inner.{IsRefused}
 use Rattle.checking.specs.Operations.{test_setup, testing}
 use Rattle.checking.proofs.Accepting.{handed_on, table_long, table_holds, root_within, answered}

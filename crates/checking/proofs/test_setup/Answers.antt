@@ -1,5 +1,4 @@
 -- `checking::test_setup` meets its contract. Assumes nothing.
-use borrow.Author.Rules.{rules}
 use Rattle.checking.proofs.Answering.{too_large, tested}
 use Rattle.checking.proofs.test_setup.Goals as goal
 

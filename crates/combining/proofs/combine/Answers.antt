@@ -1,6 +1,5 @@
 -- `combining::combine` meets its contract: both tables are checked, the first one first, and then made into one. Assumes nothing.
 use mathlib.Core.Path.{sym, ap, subst, ◌∙◌}
-use borrow.Author.Rules.{rules}
 use Rattle.checking.specs.Inner.{IsRefused}
 use Rattle.checking.specs.Answers.{checked_as}
 use Rattle.tables.specs.Answers.{written_as}
@@ -27,11 +26,10 @@ returns-in_default-second c =
     second_refused _ _ _ _ _ _ _ _ (sym j.0 ∙ ap checked_as c.in-Table.is) _ _ e (refused_low _ _ _ _ e) _ _ j.1 k.1
 
 pub combine_tables-written-requires : goal.combine_tables-written-requires
-combine_tables-written-requires c =
-    (
-      passes_checked _ _ _ (sym c.check-first.ensures.0 ∙ ap checked_as c.in-Table.is),
-      passes_checked _ _ _ (sym c.check-second.ensures.0 ∙ ap checked_as c.in-Table-second.is),
-    )
+combine_tables-written-requires c = (
+  passes_checked _ _ _ (sym c.check-first.ensures.0 ∙ ap checked_as c.in-Table.is),
+  passes_checked _ _ _ (sym c.check-second.ensures.0 ∙ ap checked_as c.in-Table-second.is),
+)
 
 pub returns-in-Bytes : goal.returns-in-Bytes
 returns-in-Bytes c =

@@ -1,7 +1,6 @@
 -- `combining::combine_roots` meets its contract: the pairs are found, made ready and written as a table. Assumes nothing.
 use mathlib.Core.Path.{subst}
 use native.Mathlib.Omega.{arith}
-use borrow.Author.Rules.{rules}
 use Rattle.pairing.specs.Inner.{Outcome}
 use Rattle.tables.proofs.Writes.{writes_same}
 use Rattle.combining.proofs.Nodes.{pairs_diagram, pairs_mean, first_means}

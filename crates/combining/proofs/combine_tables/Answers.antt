@@ -2,7 +2,6 @@
 use Prim.Native.Nat.{◌*◌, ◌/◌}
 use mathlib.Core.Path.{refl, sym, ◌∙◌}
 use native.Mathlib.Omega.{arith}
-use borrow.Author.Rules.{rules}
 use lib.ListN.{length}
 use lib.Seq.{length-take-le, length_front}
 use Rattle.combining.proofs.Outcomes.{unequal, equal_tables, checked_diagram}

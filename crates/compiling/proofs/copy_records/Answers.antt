@@ -1,11 +1,9 @@
-use Prim.Native.Nat.{◌+◌, ◌-◌, ◌*◌, ◌≤◌}
+use Prim.Native.Nat.{◌+◌, ◌*◌, ◌≤◌}
 use mathlib.Core.Path.{◌≡◌, refl, ◌∙◌}
 use native.Mathlib.Omega.{arith}
 use lib.ListN.{length}
 use borrow.Author.Rules.{rules}
-use Rattle.words.specs.Words.{word_at}
 use Rattle.words.proofs.Stores.{stored, stored_long}
-use Rattle.compiling.specs.Inner.{HoldsTable}
 use Rattle.compiling.proofs.Copying.{copied_none, copied_next}
 use Rattle.compiling.proofs.copy_records.Goals as goal
 use Rattle.compiling.proofs.copy_records.Goals.{In-loop-k}

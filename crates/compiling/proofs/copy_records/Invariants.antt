@@ -1,13 +1,9 @@
 -- `compiling::copy_records` meets its contract. The loop's invariant: the first k records are copied (`HoldsTable`). Assumes nothing.
-use Prim.Native.Nat.{◌+◌, ◌-◌, ◌*◌, ◌≤◌}
-use mathlib.Core.Path.{◌≡◌, refl, ◌∙◌}
-use native.Mathlib.Omega.{arith}
+use Prim.Native.Nat.{◌-◌, ◌≤◌}
+use mathlib.Core.Path.{◌≡◌}
 use lib.ListN.{length}
-use borrow.Author.Rules.{rules}
 use Rattle.words.specs.Words.{word_at}
-use Rattle.words.proofs.Stores.{stored, stored_long}
 use Rattle.compiling.specs.Inner.{HoldsTable}
-use Rattle.compiling.proofs.Copying.{copied_none, copied_next}
 use Rattle.compiling.proofs.copy_records.Given as goal
 
 abbrev pub invariant-loop-k : goal.invariant-loop-k

@@ -1,7 +1,6 @@
 -- `correcting::closest_setup` meets its contract: by the answer of the test, and the edge. Assumes nothing.
 use mathlib.Core.Path.{ap}
 use native.Mathlib.Omega.{arith}
-use borrow.Author.Rules.{rules}
 use Rattle.checking.specs.Answers.{tested_as}
 use Rattle.correcting.proofs.Correcting.{seekable, out_of_range, answers, answers_own, none_permitted}
 use Rattle.correcting.proofs.closest_setup.Goals as goal

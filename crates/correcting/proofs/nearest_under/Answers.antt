@@ -1,5 +1,4 @@
 -- `correcting::nearest_under` meets its contract. Assumes nothing.
-use borrow.Author.Rules.{rules}
 use Rattle.correcting.proofs.Correcting.{beside_asks, nearest_asks, of_all}
 use Rattle.correcting.proofs.nearest_under.Goals as goal
 

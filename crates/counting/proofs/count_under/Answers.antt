@@ -1,6 +1,5 @@
 -- `counting::count_under` meets its contract: the edge's share, shifted. Assumes nothing.
 use native.Mathlib.Omega.{arith}
-use borrow.Author.Rules.{rules}
 use Rattle.counting.proofs.Shares.{opened, counts_under}
 use Rattle.counting.proofs.count_under.Goals as goal
 

@@ -1,8 +1,6 @@
-use Prim.Native.Nat.{◌+◌, ◌-◌, ◌≤◌}
 use mathlib.Core.Path.{◌≡◌, sym, ap, ◌∙◌}
 use native.Mathlib.Omega.{arith}
-use borrow.Author.Rules.{rules}
-use Rattle.words.specs.Words.{word_at, words_over}
+use Rattle.words.specs.Words.{word_at}
 use Rattle.words.specs.Swap.{swap}
 use Rattle.diagram.proofs.Counts.{share_sink}
 use Rattle.counting.specs.Inner.{stored}

@@ -1,13 +1,8 @@
 -- `counting::fill` meets its contract. The loop's invariant: places 0 to k hold the shares. Assumes nothing.
 use Prim.Native.Nat.{◌+◌, ◌-◌, ◌≤◌}
-use mathlib.Core.Path.{◌≡◌, sym, ap, ◌∙◌}
-use native.Mathlib.Omega.{arith}
-use borrow.Author.Rules.{rules}
+use mathlib.Core.Path.{◌≡◌}
 use Rattle.words.specs.Words.{word_at, words_over}
-use Rattle.words.specs.Swap.{swap}
-use Rattle.diagram.proofs.Counts.{share_sink}
 use Rattle.counting.specs.Inner.{stored}
-use Rattle.counting.proofs.Filling.{Begun, begun, fill_first, fill_long, fill_next, fill_last, fill_turn}
 use Rattle.counting.proofs.fill.Given as goal
 
 abbrev pub invariant-loop-k : goal.invariant-loop-k

@@ -1,9 +1,9 @@
-use Prim.Native.Nat.{◌+◌, ◌-◌, ◌≤◌}
+use Prim.Native.Nat.{◌+◌}
 use mathlib.Core.Path.{◌≡◌, sym, ◌∙◌}
 use native.Mathlib.Omega.{arith}
 use lib.ListN.{length}
 use borrow.Author.Rules.{rules}
-use Rattle.words.specs.Words.{word_at, words_over}
+use Rattle.words.specs.Words.{word_at}
 use Rattle.diagram.specs.Count.{place}
 use Rattle.diagram.proofs.Inside.{within_room}
 use Rattle.counting.proofs.Places.{place_sink}

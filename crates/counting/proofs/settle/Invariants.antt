@@ -1,14 +1,8 @@
 -- `counting::settle` meets its contract. The loop's invariant: places 0 to k hold the counts. Assumes nothing.
 use Prim.Native.Nat.{◌+◌, ◌-◌, ◌≤◌}
-use mathlib.Core.Path.{◌≡◌, sym, ◌∙◌}
-use native.Mathlib.Omega.{arith}
-use lib.ListN.{length}
-use borrow.Author.Rules.{rules}
+use mathlib.Core.Path.{◌≡◌}
 use Rattle.words.specs.Words.{word_at, words_over}
 use Rattle.diagram.specs.Count.{place}
-use Rattle.diagram.proofs.Inside.{within_room}
-use Rattle.counting.proofs.Places.{place_sink}
-use Rattle.counting.proofs.Filling.{Begun, begun, fill_first, fill_long, fill_last, settle_next}
 use Rattle.counting.proofs.settle.Given as goal
 
 abbrev pub invariant-loop-k : goal.invariant-loop-k

@@ -1,12 +1,8 @@
-use Prim.Native.Nat.{◌+◌, ◌≤◌}
-use mathlib.Core.Path.{◌≡◌}
 use native.Mathlib.Omega.{arith}
-use lib.ListN.{length, length-set}
+use lib.ListN.{length-set}
 use borrow.Author.Rules.{rules}
-use Rattle.words.specs.Words.{word_at}
 use Rattle.diagram.specs.Count.{indicator}
-use Rattle.cutting.specs.Cut.{extended}
-use Rattle.cutting.proofs.Cutting.{Cutting, cutting_start, cutting_end, cutting_inside, end_none, end_some, cut_down}
+use Rattle.cutting.proofs.Cutting.{cutting_start, cutting_end, cutting_inside, end_none, end_some, cut_down}
 use Rattle.cutting.proofs.add_cut.Goals as goal
 
 pub overflow_add-base : goal.overflow_add-base

@@ -1,13 +1,10 @@
 -- `cutting::add_cut` meets its contract. The loop's invariant: the cut's nodes above height h are there (`Cutting`). Assumes nothing.
 use Prim.Native.Nat.{◌+◌, ◌≤◌}
 use mathlib.Core.Path.{◌≡◌}
-use native.Mathlib.Omega.{arith}
-use lib.ListN.{length, length-set}
-use borrow.Author.Rules.{rules}
+use lib.ListN.{length}
 use Rattle.words.specs.Words.{word_at}
-use Rattle.diagram.specs.Count.{indicator}
 use Rattle.cutting.specs.Cut.{extended}
-use Rattle.cutting.proofs.Cutting.{Cutting, cutting_start, cutting_end, cutting_inside, end_none, end_some, cut_down}
+use Rattle.cutting.proofs.Cutting.{Cutting}
 use Rattle.cutting.proofs.add_cut.Given as goal
 
 abbrev pub invariant-loop-h : goal.invariant-loop-h

@@ -3,7 +3,6 @@ use Prim.Native.Nat.{ℕ}
 use mathlib.Core.Path.{◌≡◌, sym}
 use mathlib.Core.Bool.{true, false}
 use native.Mathlib.Omega.{arith}
-use borrow.Author.Rules.{rules}
 use Rattle.diagram.specs.Format.{Words}
 use Rattle.diagram.specs.Reading.{HasFields, IsRecord}
 use Rattle.diagram.proofs.Fields.{height_sink, fields_record}

@@ -1,6 +1,5 @@
 -- `cutting::cut_step` meets its contract. Assumes nothing.
 use native.Mathlib.Omega.{arith}
-use borrow.Author.Rules.{rules}
 use Rattle.words.specs.Words.{word_at}
 use Rattle.cutting.specs.Cut.{extended}
 use Rattle.cutting.proofs.Steps.{step_small, step_is}

@@ -1,5 +1,4 @@
 -- `cutting::cut_word` meets its contract. Assumes nothing.
-use borrow.Author.Rules.{rules}
 use Rattle.cutting.proofs.cut_word.Goals as goal
 
 pub returns-then-on : goal.returns-then-on

@@ -1,6 +1,5 @@
 -- `cutting::has_setting` meets its contract. Assumes nothing.
 use mathlib.Core.Path.{refl}
-use borrow.Author.Rules.{rules}
 use Rattle.diagram.specs.Meaning.{bit}
 use Rattle.cutting.proofs.has_setting.Goals as goal
 

@@ -1,7 +1,6 @@
 -- `cutting::word_in` meets its contract. Assumes nothing.
 use mathlib.Core.Path.{refl}
 use native.Mathlib.Omega.{arith}
-use borrow.Author.Rules.{rules}
 use Rattle.cutting.proofs.Extended.{extended_low, extended_high}
 use Rattle.cutting.proofs.word_in.Goals as goal
 

@@ -1,6 +1,5 @@
 -- `descent::advance` meets its contract. Assumes nothing.
 use native.Mathlib.Omega.{arith}
-use borrow.Author.Rules.{rules}
 use Rattle.descent.proofs.Ways.{at_top, from_top, crossed_advances}
 use Rattle.descent.proofs.advance.Goals as goal
 

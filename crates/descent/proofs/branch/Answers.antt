@@ -1,7 +1,6 @@
 -- `descent::branch` meets its contract. Assumes nothing.
 use mathlib.Core.Path.{refl}
 use native.Mathlib.Nat.{le_refl}
-use borrow.Author.Rules.{rules}
 use Rattle.descent.proofs.Ways.{node_there, low_opens, high_room, off_fits, goes_high, goes_low}
 use Rattle.descent.proofs.branch.Goals as goal
 

@@ -1,6 +1,5 @@
 -- `descent::choose` meets its contract. Assumes nothing.
 use mathlib.Core.Path.{refl, sym}
-use borrow.Author.Rules.{rules}
 use borrow.Author.Tests.{le-leb, lt-leb}
 use Rattle.descent.proofs.choose.Goals as goal
 

@@ -1,7 +1,4 @@
 use native.Mathlib.Omega.{arith}
-use borrow.Author.Rules.{rules}
-use Rattle.words.specs.Words.{word_at}
-use Rattle.descent.specs.Inner.{ChosenBy, Stands}
 use Rattle.descent.proofs.Choosing.{chosen_first, chosen_last, digits_fit}
 use Rattle.descent.proofs.descend.Goals as goal
 

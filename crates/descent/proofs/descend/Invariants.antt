@@ -1,9 +1,6 @@
 -- `descent::descend` meets its contract. The loop's invariant: a way that stands, and the settings chosen so far. Assumes nothing.
-use native.Mathlib.Omega.{arith}
-use borrow.Author.Rules.{rules}
 use Rattle.words.specs.Words.{word_at}
 use Rattle.descent.specs.Inner.{ChosenBy, Stands}
-use Rattle.descent.proofs.Choosing.{chosen_first, chosen_last, digits_fit}
 use Rattle.descent.proofs.descend.Given as goal
 
 abbrev pub invariant-loop-h : goal.invariant-loop-h

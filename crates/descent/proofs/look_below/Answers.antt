@@ -1,6 +1,5 @@
 -- `descent::look_below` meets its contract. Assumes nothing.
 use mathlib.Core.Path.{ap, ◌∙◌}
-use borrow.Author.Rules.{rules}
 use Rattle.diagram.specs.Format.{height}
 use Rattle.diagram.proofs.Inside.{within_room}
 use Rattle.descent.proofs.look_below.Goals as goal

@@ -1,5 +1,4 @@
 -- `diagram::header_of` meets its contract. Assumes nothing.
-use borrow.Author.Rules.{rules}
 use Rattle.diagram.proofs.Fields.{fields_header}
 use Rattle.diagram.proofs.header_of.Goals as goal
 

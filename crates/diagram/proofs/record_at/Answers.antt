@@ -1,5 +1,4 @@
 -- `diagram::record_at` meets its contract. Assumes nothing.
-use borrow.Author.Rules.{rules}
 use Rattle.diagram.proofs.Fields.{fields_record}
 use Rattle.diagram.proofs.record_at.Goals as goal
 

@@ -4,7 +4,6 @@ use mathlib.Core.Path.{◌≡◌, sym, ap, ◌∙◌}
 use mathlib.Core.List.{List}
 use native.Mathlib.Omega.{arith}
 use lib.ListN.{length, get_or}
-use borrow.Author.Rules.{rules}
 use Rattle.diagram.specs.Answer.{value}
 use Rattle.diagram.specs.Ordered.{HasDiagram}
 use Rattle.diagram.proofs.Accept.{check_accepted}

@@ -1,5 +1,4 @@
 -- `diagram_dot::setting_of` is safe: a node's height is at most n. Assumes nothing.
-use borrow.Author.Rules.{rules}
 use Rattle.diagram.proofs.Paths.{height_le_settings}
 use Rattle.diagram_dot.proofs.setting_of.Goals as goal
 

@@ -1,7 +1,6 @@
 -- `distances::set_setting` meets its contract. Assumes nothing.
 use native.Mathlib.Omega.{arith}
 use lib.Pow.{shr_le}
-use borrow.Author.Rules.{rules}
 use Rattle.diagram.proofs.Bits.{shl_pos}
 use Rattle.distances.proofs.Settings.{before_fits, set_code, sum_fits}
 use Rattle.distances.proofs.set_setting.Goals as goal

@@ -1,5 +1,4 @@
 -- `distances::setting` meets its contract. Assumes nothing.
-use borrow.Author.Rules.{rules}
 use Rattle.distances.proofs.Settings.{bit_code}
 use Rattle.distances.proofs.setting.Goals as goal
 

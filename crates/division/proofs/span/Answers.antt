@@ -1,7 +1,6 @@
 -- `division::span` meets its contract: as every operation begins, `span_under` from the root edge, and a blank sheet. Assumes nothing.
 use mathlib.Core.Path.{sym, subst}
 use native.Mathlib.Omega.{arith}
-use borrow.Author.Rules.{rules}
 use Rattle.diagram.specs.Count.{total}
 use Rattle.checking.specs.Inner.{IsRefused}
 use Rattle.checking.proofs.Accepting.{handed_on, table_long, table_holds, answered}

@@ -1,6 +1,5 @@
 -- `division::span_under` meets its contract: rule 15, then the part by the count. Assumes nothing.
 use mathlib.Core.Path.{refl, sym, ◌∙◌}
-use borrow.Author.Rules.{rules}
 use Rattle.counting.specs.Inner.{Opens}
 use Rattle.counting.proofs.Filling.{root_opens}
 use Rattle.checking.specs.Operations.{sheet_by}

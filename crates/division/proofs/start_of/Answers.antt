@@ -1,6 +1,5 @@
 -- `division::start_of` meets its contract: the start by quotient and remainder. Assumes nothing.
 use native.Mathlib.Omega.{arith}
-use borrow.Author.Rules.{rules}
 use Rattle.division.proofs.Sharing.{start_split, split_fits, rest_small, small_fits}
 use Rattle.division.proofs.start_of.Goals as goal
 

@@ -1,11 +1,6 @@
-use Prim.Native.Nat.{◌+◌, ◌-◌, ◌≤◌}
-use mathlib.Core.Path.{◌≡◌, refl}
+use mathlib.Core.Path.{refl}
 use native.Mathlib.Omega.{arith}
-use lib.ListN.{length}
-use Rattle.words.specs.Words.{word_at}
 use Rattle.numbering.proofs.Keys.{keyed_readable}
-use Rattle.cutting.specs.Cut.{extended}
-use Rattle.emitting.specs.Emitting.{HoldsRecords}
 use Rattle.emitting.proofs.Numbers.{next_room, next_records, records_last}
 use Rattle.emitting.proofs.emit_cuts.Goals as goal
 

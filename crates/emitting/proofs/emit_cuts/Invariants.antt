@@ -1,13 +1,10 @@
 -- `emitting::emit_cuts` meets its contract. The loop's invariant: the new records of nodes 1 to v are written (`HoldsRecords`). Assumes nothing.
 use Prim.Native.Nat.{◌+◌, ◌-◌, ◌≤◌}
-use mathlib.Core.Path.{◌≡◌, refl}
-use native.Mathlib.Omega.{arith}
+use mathlib.Core.Path.{◌≡◌}
 use lib.ListN.{length}
 use Rattle.words.specs.Words.{word_at}
-use Rattle.numbering.proofs.Keys.{keyed_readable}
 use Rattle.cutting.specs.Cut.{extended}
 use Rattle.emitting.specs.Emitting.{HoldsRecords}
-use Rattle.emitting.proofs.Numbers.{next_room, next_records, records_last}
 use Rattle.emitting.proofs.emit_cuts.Given as goal
 
 abbrev pub invariant-loop-v : goal.invariant-loop-v

@@ -1,6 +1,5 @@
 -- `emitting::write_record` meets its contract. Assumes nothing.
 use native.Mathlib.Omega.{arith}
-use borrow.Author.Rules.{rules}
 use Rattle.emitting.proofs.Emits.{number_is}
 use Rattle.emitting.proofs.write_record.Goals as goal
 

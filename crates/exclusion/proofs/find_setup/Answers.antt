@@ -1,6 +1,5 @@
 -- `exclusion::find_setup` meets its contract: by where the setup's way ends. Assumes nothing.
 use native.Mathlib.Omega.{arith}
-use borrow.Author.Rules.{rules}
 use Rattle.exclusion.proofs.Answering.{out_of_range, ends_permitted, ends_empty, turns, goes_on, sum_fits, ends_ruled}
 use Rattle.exclusion.proofs.find_setup.Goals as goal
 

@@ -1,7 +1,6 @@
 -- `exclusion::ruled_out` meets its contract: as every operation begins, then `find_setup` from the root edge. Assumes nothing.
 use mathlib.Core.Path.{refl, sym, subst}
 use native.Mathlib.Omega.{arith}
-use borrow.Author.Rules.{rules}
 use Rattle.checking.specs.Inner.{IsRefused}
 use Rattle.exclusion.specs.Operations.{find_setup, ruling_out}
 use Rattle.checking.proofs.Accepting.{handed_on, table_long, table_holds, table_reduced, root_inside, answered}

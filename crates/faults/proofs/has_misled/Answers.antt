@@ -1,6 +1,5 @@
 -- `faults::has_misled` meets its contract. Assumes nothing.
 use mathlib.Core.Path.{sym, ◌∙◌}
-use borrow.Author.Rules.{rules}
 use Rattle.faults.proofs.has_misled.Goals as goal
 
 pub returns-then-is_misled : goal.returns-then-is_misled

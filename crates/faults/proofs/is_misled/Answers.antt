@@ -1,7 +1,6 @@
 -- `faults::is_misled` meets its contract. Assumes nothing.
 use Prim.Native.Nat.{◌<◌}
 use mathlib.Core.Path.{sym, subst, ◌∙◌}
-use borrow.Author.Rules.{rules}
 use borrow.Author.Tests.{le-leb, lt-leb}
 use Rattle.diagram.specs.Rules.{misled}
 use Rattle.faults.proofs.RecordRules.{sink_below}

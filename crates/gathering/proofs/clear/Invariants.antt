@@ -1,11 +1,7 @@
 -- `gathering::clear` meets its contract. The loop's invariant: the nodes below v have no mark. Assumes nothing.
-use Prim.Native.Nat.{ℕ, ◌+◌, ◌-◌, ◌*◌, ◌≤◌, ◌<◌}
-use mathlib.Core.Path.{◌≡◌, refl, ◌∙◌}
-use native.Mathlib.Omega.{arith}
-use borrow.Author.Rules.{rules}
-use lib.ListN.{length, length-set}
-use lib.Seq.{get_or-set_same, get_or-set_other}
-use Rattle.words.proofs.Cases.{less, same, more, tri}
+use Prim.Native.Nat.{ℕ, ◌-◌, ◌≤◌, ◌<◌}
+use mathlib.Core.Path.{◌≡◌}
+use lib.ListN.{length}
 use Rattle.gathering.specs.Inner.{mark}
 use Rattle.gathering.proofs.clear.Given as goal
 

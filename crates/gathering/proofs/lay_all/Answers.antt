@@ -1,9 +1,5 @@
-use Prim.Native.Nat.{◌-◌, ◌≤◌}
 use mathlib.Core.Path.{◌≡◌}
 use native.Mathlib.Omega.{arith}
-use borrow.Author.Rules.{rules}
-use Rattle.words.specs.Words.{word_at}
-use Rattle.gathering.specs.Inner.{AllLaid}
 use Rattle.gathering.proofs.Reaching.{all_laid_none, all_laid_next}
 use Rattle.gathering.proofs.lay_all.Goals as goal
 

@@ -1,11 +1,7 @@
 -- `gathering::lay_all` meets its contract. The loop's invariant: the nodes below v are laid (`AllLaid`). Assumes nothing.
 use Prim.Native.Nat.{◌-◌, ◌≤◌}
-use mathlib.Core.Path.{◌≡◌}
-use native.Mathlib.Omega.{arith}
-use borrow.Author.Rules.{rules}
 use Rattle.words.specs.Words.{word_at}
 use Rattle.gathering.specs.Inner.{AllLaid}
-use Rattle.gathering.proofs.Reaching.{all_laid_none, all_laid_next}
 use Rattle.gathering.proofs.lay_all.Given as goal
 
 abbrev pub invariant-loop-v : goal.invariant-loop-v

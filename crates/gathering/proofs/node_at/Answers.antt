@@ -1,7 +1,6 @@
 -- `gathering::node_at` meets its contract: zeros, or the record. Assumes nothing.
 use mathlib.Core.Logic.{inl, inr}
 use native.Mathlib.Omega.{arith}
-use borrow.Author.Rules.{rules}
 use Rattle.diagram.specs.Format.{high_field, middle_field, low_field}
 use Rattle.gathering.proofs.node_at.Goals as goal
 

@@ -1,15 +1,9 @@
 -- `gathering::reach` meets its contract. The loop's invariant: what the first i nodes lead to is met (`Met`), from whatever root. Assumes nothing.
-use Prim.Native.Nat.{ℕ, ◌-◌, ◌*◌, ◌/◌, ◌<◌}
-use mathlib.Core.Path.{◌≡◌, refl, ap, ◌∙◌}
-use mathlib.Core.Bool.{true, false}
-use native.Mathlib.Omega.{arith}
-use borrow.Author.Rules.{rules}
-use lib.ListN.{length, set, length-set}
+use Prim.Native.Nat.{ℕ, ◌-◌, ◌<◌}
+use mathlib.Core.Path.{◌≡◌}
+use lib.ListN.{length}
 use Rattle.words.specs.Words.{word_at}
-use Rattle.diagram.specs.Reading.{side}
 use Rattle.gathering.specs.Inner.{mark, Met}
-use Rattle.gathering.proofs.Meeting.{within_room, within_place, met_none, met_next, met_few, met_all}
-use Rattle.gathering.proofs.Turning.{turn_inside, turn_first, turn_done, turn_marks}
 use Rattle.gathering.proofs.reach.Given as goal
 
 abbrev pub invariant-loop-i : goal.invariant-loop-i

@@ -1,6 +1,5 @@
 -- `harness::setupbook_check` meets its contract. Assumes nothing.
 use mathlib.Core.Path.{sym, ap, ◌∙◌}
-use borrow.Author.Rules.{rules}
 use native.Mathlib.Omega.{arith}
 use Rattle.checking.specs.Answers.{checked_as}
 use Rattle.rules.proofs.Packing.{packed_value, packed_refusal}

@@ -1,6 +1,5 @@
 -- `harness::setupbook_count` meets its contract. Assumes nothing.
 use mathlib.Core.Path.{sym, ap, ◌∙◌}
-use borrow.Author.Rules.{rules}
 use Rattle.checking.specs.Answers.{counted_as}
 use Rattle.rules.proofs.Packing.{packed_value, packed_refusal}
 use Rattle.checking.proofs.Bounds.{counting_place}

@@ -1,6 +1,5 @@
 -- `harness::setupbook_span_start` meets its contract. Assumes nothing.
 use mathlib.Core.Path.{sym, ap, ◌∙◌}
-use borrow.Author.Rules.{rules}
 use Rattle.rules.proofs.Packing.{packed_value, packed_refusal}
 use Rattle.division.specs.Answers.{spanned_as}
 use Rattle.division.proofs.Bounds.{spanning_place}

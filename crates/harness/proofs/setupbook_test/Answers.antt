@@ -1,6 +1,5 @@
 -- `harness::setupbook_test` meets its contract. Assumes nothing.
 use mathlib.Core.Path.{sym, ap, ◌∙◌}
-use borrow.Author.Rules.{rules}
 use Rattle.diagram.proofs.Bits.{bool_byte_lem}
 use Rattle.checking.specs.Answers.{tested_as}
 use Rattle.rules.proofs.Packing.{packed_value, packed_refusal}

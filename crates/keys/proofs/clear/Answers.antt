@@ -1,11 +1,9 @@
-use Prim.Native.Nat.{◌+◌, ◌-◌, ◌*◌, ◌≤◌}
-use mathlib.Core.Path.{◌≡◌, refl, ◌∙◌}
+use Prim.Native.Nat.{◌+◌, ◌*◌, ◌≤◌}
+use mathlib.Core.Path.{refl, ◌∙◌}
 use native.Mathlib.Omega.{arith}
-use borrow.Author.Rules.{rules}
 use lib.ListN.{length}
-use Rattle.words.specs.Words.{word_at}
 use Rattle.words.proofs.Stores.{stored, stored_long}
-use Rattle.keys.proofs.Inserting.{Freed, freed_none, freed_next, freed_all}
+use Rattle.keys.proofs.Inserting.{freed_none, freed_next, freed_all}
 use Rattle.keys.proofs.clear.Goals as goal
 use Rattle.keys.proofs.clear.Goals.{In-loop-s}
 

@@ -1,12 +1,9 @@
 -- `keys::clear` meets its contract. The loop's invariant: the first s slots are free. Assumes nothing.
-use Prim.Native.Nat.{◌+◌, ◌-◌, ◌*◌, ◌≤◌}
-use mathlib.Core.Path.{◌≡◌, refl, ◌∙◌}
-use native.Mathlib.Omega.{arith}
-use borrow.Author.Rules.{rules}
+use Prim.Native.Nat.{◌-◌}
+use mathlib.Core.Path.{◌≡◌}
 use lib.ListN.{length}
 use Rattle.words.specs.Words.{word_at}
-use Rattle.words.proofs.Stores.{stored, stored_long}
-use Rattle.keys.proofs.Inserting.{Freed, freed_none, freed_next, freed_all}
+use Rattle.keys.proofs.Inserting.{Freed}
 use Rattle.keys.proofs.clear.Given as goal
 
 abbrev pub invariant-loop-s : goal.invariant-loop-s

@@ -1,5 +1,4 @@
 -- `keys::home_of` meets its contract. Assumes nothing.
-use native.Mathlib.Omega.{arith}
 use Rattle.keys.specs.Keys.{home}
 use Rattle.keys.proofs.home_of.Goals as goal
 

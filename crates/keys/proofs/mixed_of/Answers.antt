@@ -1,6 +1,5 @@
 -- `keys::mixed_of` meets its contract. Assumes nothing.
 use mathlib.Core.Path.{refl}
-use borrow.Author.Rules.{rules}
 use Rattle.keys.specs.Keys.{mixed}
 use Rattle.keys.proofs.mixed_of.Goals as goal
 

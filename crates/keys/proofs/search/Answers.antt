@@ -1,9 +1,7 @@
-use Prim.Native.Nat.{◌+◌, ◌-◌, ◌<◌}
+use Prim.Native.Nat.{◌+◌, ◌<◌}
 use native.Mathlib.Omega.{arith}
-use borrow.Author.Rules.{rules}
-use Rattle.words.specs.Words.{word_at}
 use Rattle.keys.specs.Keys.{strides}
-use Rattle.keys.proofs.Searching.{Probe, probe_first, step_fits, slot_below, held_le, probe_free, probe_here, probe_next, probe_round}
+use Rattle.keys.proofs.Searching.{probe_first, step_fits, slot_below, held_le, probe_free, probe_here, probe_next, probe_round}
 use Rattle.keys.proofs.search.Goals as goal
 use Rattle.keys.proofs.search.Goals.{In-loop-d}
 

@@ -1,10 +1,7 @@
 -- `keys::search` meets its contract. The loop's invariant: the first d slots of the search are taken by other keys. Assumes nothing.
-use Prim.Native.Nat.{◌+◌, ◌-◌, ◌<◌}
-use native.Mathlib.Omega.{arith}
-use borrow.Author.Rules.{rules}
+use Prim.Native.Nat.{◌+◌, ◌-◌}
 use Rattle.words.specs.Words.{word_at}
-use Rattle.keys.specs.Keys.{strides}
-use Rattle.keys.proofs.Searching.{Probe, probe_first, step_fits, slot_below, held_le, probe_free, probe_here, probe_next, probe_round}
+use Rattle.keys.proofs.Searching.{Probe}
 use Rattle.keys.proofs.search.Given as goal
 
 abbrev pub invariant-loop-d : goal.invariant-loop-d

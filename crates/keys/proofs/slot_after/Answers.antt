@@ -1,6 +1,5 @@
 -- `keys::slot_after` meets its contract. Assumes nothing.
 use mathlib.Core.Path.{sym}
-use borrow.Author.Rules.{rules}
 use Rattle.keys.proofs.Probing.{further_near, further_round}
 use Rattle.keys.proofs.slot_after.Goals as goal
 

@@ -2,7 +2,6 @@
 use Prim.Native.Nat.{◌^◌}
 use mathlib.Core.Path.{◌≡◌, refl}
 use native.Mathlib.Omega.{arith}
-use borrow.Author.Rules.{rules}
 use Rattle.words.specs.Words.{word_at}
 use Rattle.diagram.specs.Meaning.{under}
 use Rattle.diagram.specs.Count.{count_below}
@@ -44,14 +43,13 @@ returns-then-fine-m c =
     (r.0, r.1, filled_past _ _ _ _ c.fill.ensures)
 
 pub write_setups-requires : goal.write_setups-requires
-write_setups-requires c =
-    (
-      opens (goal.at.write_setups-requires c).After-fill,
-      omega arith,
-      omega (arith, c.if-setups-m.false),
-      passed_rising _ _ c.check_rising-rising.ensures c.in_default.is,
-      all_fine _ _ _ _ _ _ (counted (goal.at.write_setups-requires c).After-count_under-c) c.count_below-fine.ensures c.if-fine-m.false,
-    )
+write_setups-requires c = (
+  opens (goal.at.write_setups-requires c).After-fill,
+  omega arith,
+  omega (arith, c.if-setups-m.false),
+  passed_rising _ _ c.check_rising-rising.ensures c.in_default.is,
+  all_fine _ _ _ _ _ _ (counted (goal.at.write_setups-requires c).After-count_under-c) c.count_below-fine.ensures c.if-fine-m.false,
+)
 
 pub returns : goal.returns
 returns c =

@@ -1,9 +1,6 @@
-use Prim.Native.Nat.{ℕ, ◌-◌, ◌≤◌}
 use mathlib.Core.Path.{◌≡◌}
 use native.Mathlib.Omega.{arith}
 use lib.ListN.{length}
-use borrow.Author.Rules.{rules}
-use Rattle.trail.specs.Inner.{Trail}
 use Rattle.trail.proofs.Resuming.{trail_first}
 use Rattle.lists.proofs.Serving.{Serves, serves_first, serves_long, serves_all, serves_resumes, serves_next}
 use Rattle.lists.proofs.write_setups.Goals as goal

@@ -1,12 +1,7 @@
 -- `lists::write_setups` meets its contract. The loop's invariant: the first i setups are written, and the way to the last of them is kept. Assumes nothing.
 use Prim.Native.Nat.{ℕ, ◌-◌, ◌≤◌}
-use mathlib.Core.Path.{◌≡◌}
-use native.Mathlib.Omega.{arith}
-use lib.ListN.{length}
-use borrow.Author.Rules.{rules}
 use Rattle.trail.specs.Inner.{Trail}
-use Rattle.trail.proofs.Resuming.{trail_first}
-use Rattle.lists.proofs.Serving.{Serves, serves_first, serves_long, serves_all, serves_resumes, serves_next}
+use Rattle.lists.proofs.Serving.{Serves}
 use Rattle.lists.proofs.write_setups.Given as goal
 
 abbrev pub invariant-loop-i : goal.invariant-loop-i

@@ -1,9 +1,6 @@
-use Prim.Native.Nat.{suc, ◌-◌, ◌≤◌}
 use mathlib.Core.Path.{◌≡◌, refl, sym, ◌∙◌}
 use native.Mathlib.Omega.{arith}
-use borrow.Author.Rules.{rules}
-use Rattle.words.specs.Words.{word_at}
-use Rattle.diagram.specs.Answer.{pass, each}
+use Rattle.diagram.specs.Answer.{each}
 use Rattle.rules.proofs.Turns.{turn_refused, turn_passed}
 use Rattle.loose.specs.Rules.{check_loose_record, check_loose_records}
 use Rattle.loose.proofs.check_records.Goals as goal

@@ -1,12 +1,9 @@
 -- `loose::check_records` meets its contract. The loop's invariant: the first k records pass. Assumes nothing.
 use Prim.Native.Nat.{suc, ◌-◌, ◌≤◌}
-use mathlib.Core.Path.{◌≡◌, refl, sym, ◌∙◌}
-use native.Mathlib.Omega.{arith}
-use borrow.Author.Rules.{rules}
+use mathlib.Core.Path.{◌≡◌}
 use Rattle.words.specs.Words.{word_at}
 use Rattle.diagram.specs.Answer.{pass, each}
-use Rattle.rules.proofs.Turns.{turn_refused, turn_passed}
-use Rattle.loose.specs.Rules.{check_loose_record, check_loose_records}
+use Rattle.loose.specs.Rules.{check_loose_record}
 use Rattle.loose.proofs.check_records.Given as goal
 
 abbrev pub invariant-loop-k : goal.invariant-loop-k

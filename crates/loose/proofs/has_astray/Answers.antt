@@ -1,6 +1,5 @@
 -- `loose::has_astray` meets its contract. Assumes nothing.
 use mathlib.Core.Path.{sym, ◌∙◌}
-use borrow.Author.Rules.{rules}
 use Rattle.loose.proofs.has_astray.Goals as goal
 
 pub returns-then-is_astray : goal.returns-then-is_astray

@@ -1,6 +1,5 @@
 -- `loose::is_astray` meets its contract. Assumes nothing.
 use native.Mathlib.Omega.{arith}
-use borrow.Author.Rules.{rules}
 use borrow.Author.Tests.{lt-ltb, le-ltb}
 use Rattle.loose.specs.Rules.{astray}
 use Rattle.loose.proofs.is_astray.Goals as goal

@@ -1,12 +1,7 @@
-use Prim.Native.Nat.{◌+◌, ◌≤◌}
-use mathlib.Core.Path.{◌≡◌, refl}
+use mathlib.Core.Path.{refl}
 use native.Mathlib.Omega.{arith}
-use lib.ListN.{length}
-use borrow.Author.Rules.{rules}
-use Rattle.words.specs.Words.{word_at}
-use Rattle.cutting.specs.Cut.{extended}
 use Rattle.cutting.proofs.Extended.{room_same}
-use Rattle.marking.proofs.Marking.{Marking, marking_start, marking_down, marking_end}
+use Rattle.marking.proofs.Marking.{marking_start, marking_down, marking_end}
 use Rattle.marking.proofs.mark.Goals as goal
 
 pub overflow_add-v : goal.overflow_add-v

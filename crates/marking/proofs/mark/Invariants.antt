@@ -1,13 +1,10 @@
 -- `marking::mark` meets its contract. The loop's invariant: what is marked above node v leads to what is marked (`Marking`). Assumes nothing.
 use Prim.Native.Nat.{◌+◌, ◌≤◌}
-use mathlib.Core.Path.{◌≡◌, refl}
-use native.Mathlib.Omega.{arith}
+use mathlib.Core.Path.{◌≡◌}
 use lib.ListN.{length}
-use borrow.Author.Rules.{rules}
 use Rattle.words.specs.Words.{word_at}
 use Rattle.cutting.specs.Cut.{extended}
-use Rattle.cutting.proofs.Extended.{room_same}
-use Rattle.marking.proofs.Marking.{Marking, marking_start, marking_down, marking_end}
+use Rattle.marking.proofs.Marking.{Marking}
 use Rattle.marking.proofs.mark.Given as goal
 
 abbrev pub invariant-loop-v : goal.invariant-loop-v

@@ -1,7 +1,6 @@
 -- `marking::mark_below` meets its contract. Assumes nothing.
 use mathlib.Core.Path.{refl, sym, ◌∙◌}
 use native.Mathlib.Omega.{arith}
-use borrow.Author.Rules.{rules}
 use Rattle.marking.specs.Marks.{left_out}
 use Rattle.marking.proofs.Marking.{names_inside, marked_below}
 use Rattle.marking.proofs.mark_below.Goals as goal

@@ -1,5 +1,4 @@
 -- `marking::mark_two` meets its contract. Assumes nothing.
-use borrow.Author.Rules.{rules}
 use Rattle.marking.proofs.Spreading.{spread}
 use Rattle.marking.proofs.mark_two.Goals as goal
 

@@ -1,6 +1,5 @@
 -- `merging::cut_node` meets its contract. Assumes nothing.
 use mathlib.Core.Path.{refl}
-use borrow.Author.Rules.{rules}
 use Rattle.merging.proofs.cut_node.Goals as goal
 
 pub returns-then-second : goal.returns-then-second

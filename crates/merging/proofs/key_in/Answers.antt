@@ -1,7 +1,6 @@
 -- `merging::key_in` meets its contract. Assumes nothing.
 use Prim.Native.Nat.{ℕ}
 use mathlib.Core.Path.{subst}
-use borrow.Author.Rules.{rules}
 use Rattle.words.specs.Words.{word_at}
 use Rattle.numbering.specs.Renewal.{IsKey}
 use Rattle.numbering.proofs.Keys.{keyed_readable}

@@ -1,10 +1,6 @@
-use Prim.Native.Nat.{◌+◌, ◌-◌}
-use mathlib.Core.Path.{◌≡◌, refl, ◌∙◌}
+use mathlib.Core.Path.{refl, ◌∙◌}
 use native.Mathlib.Omega.{arith}
-use Rattle.words.specs.Words.{word_at}
-use Rattle.cutting.specs.Cut.{extended}
 use Rattle.cutting.proofs.Extended.{room_same}
-use Rattle.merging.specs.Inner.{Reached}
 use Rattle.merging.proofs.Ends.{reached_trans, reached_first, end_limits, finished}
 use Rattle.merging.proofs.number.Goals as goal
 

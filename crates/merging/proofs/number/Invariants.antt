@@ -1,12 +1,9 @@
 -- `merging::number` meets its contract. The loop's invariant: the levels of the cuts below `first` are numbered. Assumes nothing.
 use Prim.Native.Nat.{◌+◌, ◌-◌}
-use mathlib.Core.Path.{◌≡◌, refl, ◌∙◌}
-use native.Mathlib.Omega.{arith}
+use mathlib.Core.Path.{◌≡◌}
 use Rattle.words.specs.Words.{word_at}
 use Rattle.cutting.specs.Cut.{extended}
-use Rattle.cutting.proofs.Extended.{room_same}
 use Rattle.merging.specs.Inner.{Reached}
-use Rattle.merging.proofs.Ends.{reached_trans, reached_first, end_limits, finished}
 use Rattle.merging.proofs.number.Given as goal
 
 abbrev pub invariant-loop-at : goal.invariant-loop-at

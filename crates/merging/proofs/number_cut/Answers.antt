@@ -2,7 +2,6 @@
 use mathlib.Core.Path.{ap, ◌∙◌}
 use mathlib.Core.Bool.{true, false}
 use native.Mathlib.Omega.{arith}
-use borrow.Author.Rules.{rules}
 use Rattle.merging.specs.Inner.{cut_node}
 use Rattle.merging.proofs.Lists.{cut_inside}
 use Rattle.merging.proofs.Merge.{merging_keyed}

@@ -1,10 +1,6 @@
-use Prim.Native.Nat.{◌+◌, ◌-◌}
 use mathlib.Core.Path.{refl}
 use native.Mathlib.Omega.{arith}
-use Rattle.words.specs.Words.{word_at}
-use Rattle.cutting.specs.Cut.{extended}
 use Rattle.cutting.proofs.Extended.{extended_low}
-use Rattle.merging.specs.Inner.{Passing}
 use Rattle.merging.proofs.Merge.{few_records}
 use Rattle.merging.proofs.Passing.{turn_first, turn_pass, turn_ready, turn_differ, turn_last, turn_next, turn_end}
 use Rattle.merging.proofs.number_table.Goals as goal

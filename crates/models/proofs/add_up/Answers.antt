@@ -1,7 +1,6 @@
-use Prim.Native.Nat.{ℕ, ◌-◌, ◌≤◌}
+use Prim.Native.Nat.{ℕ}
 use mathlib.Core.Path.{◌≡◌, subst}
 use native.Mathlib.Omega.{arith}
-use borrow.Author.Rules.{rules}
 use Rattle.models.specs.Inner.{AddsUp}
 use Rattle.models.proofs.Adding.{next_index, next_high, adds_none, adds_next}
 use Rattle.models.proofs.add_up.Goals as goal

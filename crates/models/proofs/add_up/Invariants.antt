@@ -1,10 +1,6 @@
 -- `models::add_up` meets its contract. The loop's invariant: `sum` has the counts of the first i models, and its high word is at most i. Assumes nothing.
-use Prim.Native.Nat.{ℕ, ◌-◌, ◌≤◌}
-use mathlib.Core.Path.{◌≡◌, subst}
-use native.Mathlib.Omega.{arith}
-use borrow.Author.Rules.{rules}
+use Prim.Native.Nat.{◌-◌, ◌≤◌}
 use Rattle.models.specs.Inner.{AddsUp}
-use Rattle.models.proofs.Adding.{next_index, next_high, adds_none, adds_next}
 use Rattle.models.proofs.add_up.Given as goal
 
 abbrev pub invariant-loop-i : goal.invariant-loop-i

@@ -1,12 +1,8 @@
 -- `models::locate` meets its contract. The loop's invariant: `left` is r less the counts of the first i models. Assumes nothing.
-use Prim.Native.Nat.{◌+◌, ◌-◌, ◌^◌, ◌≤◌}
-use mathlib.Core.Path.{◌≡◌, ap}
-use native.Mathlib.Omega.{arith}
-use borrow.Author.Rules.{rules}
-use Rattle.diagram.specs.Count.{count_below}
+use Prim.Native.Nat.{◌+◌, ◌-◌, ◌≤◌}
+use mathlib.Core.Path.{◌≡◌}
 use Rattle.models.specs.Pairs.{sum_counts}
 use Rattle.models.specs.Inner.{models_of}
-use Rattle.models.proofs.Adding.{sum_none, sum_next, model_counted}
 use Rattle.models.proofs.locate.Given as goal
 
 abbrev pub invariant-loop-i : goal.invariant-loop-i

@@ -1,5 +1,4 @@
 -- `naming::flag_of` meets its contract. Assumes nothing.
-use borrow.Author.Rules.{rules}
 use Rattle.naming.proofs.Readying.{flag_named, flag_other}
 use Rattle.naming.proofs.flag_of.Goals as goal
 

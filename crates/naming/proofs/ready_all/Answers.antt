@@ -1,10 +1,5 @@
-use Prim.Native.Nat.{◌-◌, ◌≤◌}
 use mathlib.Core.Path.{◌≡◌, refl, ◌∙◌}
 use native.Mathlib.Omega.{arith}
-use lib.ListN.{length}
-use borrow.Author.Rules.{rules}
-use Rattle.words.specs.Words.{word_at}
-use Rattle.naming.specs.Inner.{AllReady}
 use Rattle.naming.proofs.Readying.{ready_none, ready_next}
 use Rattle.naming.proofs.ready_all.Goals as goal
 

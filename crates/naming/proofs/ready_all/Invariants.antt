@@ -1,12 +1,9 @@
 -- `naming::ready_all` meets its contract. The loop's invariant: the first i pairs are made ready (`AllReady`). Assumes nothing.
 use Prim.Native.Nat.{◌-◌, ◌≤◌}
-use mathlib.Core.Path.{◌≡◌, refl, ◌∙◌}
-use native.Mathlib.Omega.{arith}
+use mathlib.Core.Path.{◌≡◌}
 use lib.ListN.{length}
-use borrow.Author.Rules.{rules}
 use Rattle.words.specs.Words.{word_at}
 use Rattle.naming.specs.Inner.{AllReady}
-use Rattle.naming.proofs.Readying.{ready_none, ready_next}
 use Rattle.naming.proofs.ready_all.Given as goal
 
 abbrev pub invariant-loop-i : goal.invariant-loop-i

@@ -1,8 +1,6 @@
 -- `nearing::enter_edge` meets its contract: the lesser of the two costs. Assumes nothing.
 use mathlib.Core.Path.{◌≡◌, ap, ap₂, ◌∙◌}
-use mathlib.Core.Logic.{inl, inr}
 use lib.ListN.{set}
-use borrow.Author.Rules.{rules}
 use Rattle.nearing.specs.Inner.{lesser}
 use Rattle.nearing.proofs.Entering.{lesser_on, lesser_off}
 use Rattle.nearing.proofs.enter_edge.Goals as goal

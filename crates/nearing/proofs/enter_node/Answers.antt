@@ -1,7 +1,6 @@
 -- `nearing::enter_node` meets its contract: both edges to the node, one after the other. Assumes nothing.
 use mathlib.Core.Path.{refl}
 use native.Mathlib.Omega.{arith}
-use borrow.Author.Rules.{rules}
 use Rattle.diagram.specs.Count.{indicator}
 use Rattle.nearing.proofs.Entering.{node_low, edge_bytes, edge_far, kept_before, node_entered}
 use Rattle.nearing.proofs.enter_node.Goals as goal

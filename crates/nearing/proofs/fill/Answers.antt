@@ -1,8 +1,6 @@
-use Prim.Native.Nat.{◌-◌, ◌≤◌}
 use mathlib.Core.Path.{◌≡◌, refl, subst, ◌∙◌}
 use native.Mathlib.Omega.{arith}
 use lib.ListN.{length, length-set}
-use borrow.Author.Rules.{rules}
 use Rattle.nearing.specs.Inner.{Filled}
 use Rattle.nearing.proofs.Entering.{sink_filled, next_node}
 use Rattle.nearing.proofs.fill.Goals as goal

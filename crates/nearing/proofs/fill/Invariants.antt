@@ -1,11 +1,8 @@
 -- `nearing::fill` meets its contract. The loop's invariant: the distances under the edges to nodes 0 to k are entered. Assumes nothing.
 use Prim.Native.Nat.{◌-◌, ◌≤◌}
-use mathlib.Core.Path.{◌≡◌, refl, subst, ◌∙◌}
-use native.Mathlib.Omega.{arith}
-use lib.ListN.{length, length-set}
-use borrow.Author.Rules.{rules}
+use mathlib.Core.Path.{◌≡◌}
+use lib.ListN.{length}
 use Rattle.nearing.specs.Inner.{Filled}
-use Rattle.nearing.proofs.Entering.{sink_filled, next_node}
 use Rattle.nearing.proofs.fill.Given as goal
 
 abbrev pub invariant-loop-k : goal.invariant-loop-k

@@ -1,14 +1,10 @@
-use Prim.Native.Nat.{◌/◌}
 use mathlib.Core.Path.{refl}
 use mathlib.Core.Bool.{false}
 use native.Mathlib.Omega.{arith}
 use lib.Dec.{ltb}
-use borrow.Author.Rules.{rules}
-use Rattle.words.specs.Words.{word_at}
-use Rattle.diagram.specs.Format.{height}
 use Rattle.walking.specs.Inner.{Forks}
 use Rattle.nearing.proofs.Entering.{sides_bytes, digit_le}
-use Rattle.nearing.proofs.Going.{Goes, goes_first, goes_last, goes_next}
+use Rattle.nearing.proofs.Going.{goes_first, goes_last, goes_next}
 use Rattle.nearing.proofs.nearest.Goals as goal
 use Rattle.nearing.proofs.nearest.Goals.{After-fork_at-fork}
 

@@ -1,15 +1,8 @@
 -- `nearing::nearest` meets its contract. The loop's invariant: what is nearest from the edge reached on is nearest from the first one on. Assumes nothing.
 use Prim.Native.Nat.{◌/◌}
-use mathlib.Core.Path.{refl}
-use mathlib.Core.Bool.{false}
-use native.Mathlib.Omega.{arith}
-use lib.Dec.{ltb}
-use borrow.Author.Rules.{rules}
 use Rattle.words.specs.Words.{word_at}
 use Rattle.diagram.specs.Format.{height}
-use Rattle.walking.specs.Inner.{Forks}
-use Rattle.nearing.proofs.Entering.{sides_bytes, digit_le}
-use Rattle.nearing.proofs.Going.{Goes, goes_first, goes_last, goes_next}
+use Rattle.nearing.proofs.Going.{Goes}
 use Rattle.nearing.proofs.nearest.Given as goal
 
 abbrev pub invariant-loop-edge : goal.invariant-loop-edge

@@ -1,15 +1,10 @@
-use Prim.Native.Nat.{◌/◌}
 use mathlib.Core.Path.{ap, ◌∙◌}
-use mathlib.Core.Logic.{inl, inr}
 use mathlib.Core.Bool.{false, not}
 use native.Mathlib.Omega.{arith}
 use lib.Dec.{eqb}
 use borrow.Author.Tests.{eq-eqb, ne_eqb}
-use borrow.Author.Rules.{rules}
-use Rattle.words.specs.Words.{word_at}
-use Rattle.diagram.specs.Format.{height}
 use Rattle.walking.specs.Inner.{Forks}
-use Rattle.neighbours.proofs.Seeking.{Seeks, seeks_first, seeks_last, on_as, side_within, found_off, found_on, found_none}
+use Rattle.neighbours.proofs.Seeking.{seeks_first, seeks_last, on_as, side_within, found_off, found_on, found_none}
 use Rattle.neighbours.proofs.beside.Goals as goal
 use Rattle.neighbours.proofs.beside.Goals.{After-fork_at-fork, then-permitted_under+else-on, else-permitted_under}
 

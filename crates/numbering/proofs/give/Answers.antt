@@ -1,7 +1,6 @@
 -- `numbering::give` meets its contract. Assumes nothing.
 use mathlib.Core.Path.{refl}
 use native.Mathlib.Omega.{arith}
-use borrow.Author.Rules.{rules}
 use Rattle.numbering.specs.Renewal.{skipped}
 use Rattle.numbering.proofs.Keys.{field_small, gave_edge, fields_differ}
 use Rattle.numbering.proofs.give.Goals as goal

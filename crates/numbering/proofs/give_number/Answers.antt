@@ -1,6 +1,5 @@
 -- `numbering::give_number` meets its contract. Assumes nothing.
 use native.Mathlib.Omega.{arith}
-use borrow.Author.Rules.{rules}
 use Rattle.numbering.proofs.Keys.{counted_few, gave_number}
 use Rattle.numbering.proofs.give_number.Goals as goal
 

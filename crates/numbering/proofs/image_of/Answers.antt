@@ -1,5 +1,4 @@
 -- `numbering::image_of` meets its contract. Assumes nothing.
-use borrow.Author.Rules.{rules}
 use Rattle.numbering.proofs.Keys.{image_is}
 use Rattle.numbering.proofs.image_of.Goals as goal
 

@@ -1,6 +1,5 @@
 -- `numbering::key_of` meets its contract. Assumes nothing.
 use Prim.Native.Nat.{◌<◌}
-use borrow.Author.Rules.{rules}
 use Rattle.words.specs.Words.{word_at}
 use Rattle.numbering.specs.Renewal.{Renewable}
 use Rattle.numbering.proofs.Keys.{place_live, key_dead, then_there, else_there, key_fits, key_is}

@@ -1,7 +1,6 @@
 -- `numbering::normal_word` meets its contract. Assumes nothing.
 use mathlib.Core.Path.{ap, ◌∙◌}
 use native.Mathlib.Omega.{arith}
-use borrow.Author.Rules.{rules}
 use Rattle.diagram.specs.Reading.{record_of}
 use Rattle.diagram.proofs.Edges.{turn_lt}
 use Rattle.numbering.specs.Renewal.{normal}

@@ -1,5 +1,4 @@
 -- `numbering::renew_plain` meets its contract. Assumes nothing.
-use borrow.Author.Rules.{rules}
 use Rattle.numbering.proofs.Keys.{then_there, else_there, plain_fits, plain_is}
 use Rattle.numbering.proofs.renew_plain.Goals as goal
 

@@ -1,7 +1,6 @@
 use mathlib.Core.Path.{refl, sym, ◌∙◌, subst}
 use native.Mathlib.Omega.{arith}
 use Prim.Native.Nat.{ℕ, ◌<◌}
-use borrow.Author.Rules.{rules}
 use Rattle.words.specs.Words.{word_at}
 use Rattle.pairing.specs.Inner.{Arrives}
 use Rattle.pairing.proofs.Pairs.{pair_small}

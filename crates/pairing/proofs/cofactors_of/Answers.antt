@@ -1,6 +1,5 @@
 -- `pairing::cofactors_of` meets its contract. Assumes nothing.
 use mathlib.Core.Bool.{true, false}
-use borrow.Author.Rules.{rules}
 use Rattle.diagram.proofs.Cofactor.{passes_below, goes_on}
 use Rattle.diagram.proofs.Inside.{within_room}
 use Rattle.pairing.proofs.Pairs.{high_node}

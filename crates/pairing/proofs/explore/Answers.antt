@@ -1,7 +1,6 @@
 -- `pairing::explore` meets its contract. Assumes nothing.
 use mathlib.Core.Path.{refl, ◌∙◌, subst}
 use native.Mathlib.Omega.{arith}
-use borrow.Author.Rules.{rules}
 use Rattle.pairing.specs.Inner.{Arrives}
 use Rattle.pairing.proofs.Exploring.{root_within, none_held, root_full, all_pairs}
 use Rattle.pairing.proofs.explore.Goals as goal

@@ -1,7 +1,6 @@
 -- `parts::part_write` meets its contract: as every operation begins, `write_part` from the root edge, and a blank sheet. Assumes nothing.
 use mathlib.Core.Path.{sym, subst}
 use native.Mathlib.Omega.{arith}
-use borrow.Author.Rules.{rules}
 use Rattle.checking.specs.Inner.{IsRefused}
 use Rattle.checking.proofs.Accepting.{table_long, table_holds}
 use Rattle.checking.proofs.Lending.{begins_for, places_left, countable}

@@ -1,7 +1,6 @@
 -- `parts::write_extent` meets its contract. Assumes nothing.
 use mathlib.Core.Path.{refl, sym}
 use native.Mathlib.Omega.{arith}
-use borrow.Author.Rules.{rules}
 use Rattle.words.specs.Words.{word_at}
 use Rattle.diagram.specs.Meaning.{under}
 use Rattle.diagram.proofs.Select.{select_some}

@@ -2,7 +2,6 @@
 use mathlib.Core.Path.{sym, ap, ◌∙◌}
 use mathlib.Core.List.{[]}
 use native.Mathlib.Omega.{arith}
-use borrow.Author.Rules.{rules}
 use Rattle.division.specs.Answers.{spanned_as}
 use Rattle.parts.proofs.Extents.{none_kept, span_inside, some_kept, span_past, span_opens, span_countable}
 use Rattle.parts.proofs.write_part.Goals as goal

@@ -1,6 +1,5 @@
 -- `pascal::coefficient` meets its contract: where an entry stands. Assumes nothing.
 use native.Mathlib.Omega.{arith}
-use borrow.Author.Rules.{rules}
 use Rattle.pascal.proofs.Pascal.{place_inside, rule_entry}
 use Rattle.pascal.proofs.coefficient.Goals as goal
 

@@ -1,7 +1,6 @@
 -- `ranking::rank` meets its contract: as every operation begins, `rank_setup` from the root edge, and a blank sheet. Assumes nothing.
 use mathlib.Core.Path.{sym, subst}
 use native.Mathlib.Omega.{arith}
-use borrow.Author.Rules.{rules}
 use Rattle.checking.specs.Inner.{IsRefused}
 use Rattle.checking.proofs.Accepting.{handed_on, table_long, table_holds, answered}
 use Rattle.checking.proofs.Lending.{enough, handed_back, places_left, blanked, countable}

@@ -1,6 +1,5 @@
 -- `ranking::rank_setup` meets its contract: by the answer of the test. Assumes nothing.
 use mathlib.Core.Path.{refl, ap}
-use borrow.Author.Rules.{rules}
 use Rattle.counting.proofs.Filling.{root_opens}
 use Rattle.checking.specs.Answers.{tested_as}
 use Rattle.checking.proofs.Lending.{filled_past}
@@ -18,11 +17,10 @@ rank_under-r-requires c =
     (root_opens _ _ _ _ _ _ c.requires c.fill.ensures).1.filled
 
 pub returns-then-yes : goal.returns-then-yes
-returns-then-yes c =
-    (
-      ranked_at _ _ _ _ c.test_setup-tested.ensures _ (ap tested_as c.in-Permitted.is) c.if-yes.true _ c.rank_under-r.ensures,
-      filled_past _ _ _ _ c.fill.ensures,
-    )
+returns-then-yes c = (
+  ranked_at _ _ _ _ c.test_setup-tested.ensures _ (ap tested_as c.in-Permitted.is) c.if-yes.true _ c.rank_under-r.ensures,
+  filled_past _ _ _ _ c.fill.ensures,
+)
 
 pub returns-else-yes : goal.returns-else-yes
 returns-else-yes c =

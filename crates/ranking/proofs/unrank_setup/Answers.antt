@@ -1,7 +1,6 @@
 -- `ranking::unrank_setup` meets its contract. Assumes nothing.
 use Prim.Native.Nat.{◌^◌}
 use mathlib.Core.Path.{◌≡◌}
-use borrow.Author.Rules.{rules}
 use Rattle.words.specs.Words.{word_at}
 use Rattle.diagram.specs.Meaning.{under}
 use Rattle.diagram.specs.Count.{count_below}

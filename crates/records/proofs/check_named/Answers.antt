@@ -1,7 +1,6 @@
 -- `records::check_named` meets its contract: where the records pass, rule 9 by the marks is rule 9. Assumes nothing.
 use mathlib.Core.Path.{sym, ap, ◌∙◌}
 use native.Mathlib.Omega.{arith}
-use borrow.Author.Rules.{rules}
 use Rattle.diagram.specs.Answer.{and_then}
 use Rattle.diagram.specs.Rules.{check_diagram}
 use Rattle.rules.specs.Refusals.{verdict_as}

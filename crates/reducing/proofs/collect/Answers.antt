@@ -1,11 +1,8 @@
 use Prim.Native.Nat.{◌+◌, ◌-◌, ◌*◌, ◌≤◌, ◌<◌}
 use mathlib.Core.Path.{◌≡◌, refl, ◌∙◌}
-use mathlib.Core.Logic.{inl, inr, ⊎_elim}
+use mathlib.Core.Logic.{inl, inr}
 use native.Mathlib.Omega.{arith}
 use lib.ListN.{length}
-use borrow.Author.Rules.{rules}
-use Rattle.words.specs.Words.{word_at}
-use Rattle.reducing.specs.Steps.{Collects}
 use Rattle.reducing.proofs.Collecting.{collected_first, turn_inside, turn_room, turn_low, turn_leads, collect_falls, collected_turn}
 use Rattle.reducing.proofs.collect.Goals as goal
 use Rattle.reducing.proofs.collect.Goals.{After-renew, else-renew, then-renew}

@@ -1,12 +1,8 @@
-use Prim.Native.Nat.{◌+◌, ◌-◌, ◌*◌, ◌≤◌}
+use Prim.Native.Nat.{◌+◌, ◌*◌, ◌≤◌}
 use mathlib.Core.Path.{◌≡◌, refl, ◌∙◌}
 use native.Mathlib.Omega.{arith}
 use lib.ListN.{length}
-use borrow.Author.Rules.{rules}
-use Rattle.words.specs.Words.{word_at}
 use Rattle.words.proofs.Stores.{stored, stored_long}
-use Rattle.reducing.specs.Inner.{height_of}
-use Rattle.reducing.specs.Steps.{Linked}
 use Rattle.reducing.proofs.Lists.{linked_none, turn_height, head_low, linked_next}
 use Rattle.reducing.proofs.link.Goals as goal
 use Rattle.reducing.proofs.link.Goals.{After-word_at-at, In-loop-i}

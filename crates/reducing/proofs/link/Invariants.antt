@@ -1,14 +1,10 @@
 -- `reducing::link` meets its contract. The loop's invariant: the nodes before i are in their lists (`Linked`). Assumes nothing.
-use Prim.Native.Nat.{◌+◌, ◌-◌, ◌*◌, ◌≤◌}
-use mathlib.Core.Path.{◌≡◌, refl, ◌∙◌}
-use native.Mathlib.Omega.{arith}
+use Prim.Native.Nat.{◌-◌, ◌≤◌}
+use mathlib.Core.Path.{◌≡◌}
 use lib.ListN.{length}
-use borrow.Author.Rules.{rules}
 use Rattle.words.specs.Words.{word_at}
-use Rattle.words.proofs.Stores.{stored, stored_long}
 use Rattle.reducing.specs.Inner.{height_of}
 use Rattle.reducing.specs.Steps.{Linked}
-use Rattle.reducing.proofs.Lists.{linked_none, turn_height, head_low, linked_next}
 use Rattle.reducing.proofs.link.Given as goal
 
 abbrev pub invariant-loop-i : goal.invariant-loop-i

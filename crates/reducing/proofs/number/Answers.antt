@@ -3,9 +3,7 @@ use mathlib.Core.Path.{◌≡◌, refl, ◌∙◌}
 use native.Mathlib.Omega.{arith}
 use lib.ListN.{length}
 use borrow.Author.Rules.{rules}
-use Rattle.words.specs.Words.{word_at}
 use Rattle.words.proofs.Stores.{stored, stored_long}
-use Rattle.reducing.specs.Steps.{Counts}
 use Rattle.reducing.proofs.Giving.{counted_first, give_inside, give_findable, give_falls, counted_next}
 use Rattle.reducing.proofs.number.Goals as goal
 use Rattle.reducing.proofs.number.Goals.{After-put_word, In-loop-next}

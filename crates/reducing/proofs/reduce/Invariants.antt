@@ -1,12 +1,10 @@
 -- `reducing::reduce` meets its contract. The loop's invariant: the nodes up to height h are numbered (`Staged`), whatever nodes stood there before. Assumes nothing.
-use Prim.Native.Nat.{◌+◌, ◌-◌, ◌≤◌}
-use mathlib.Core.Path.{◌≡◌, refl, ◌∙◌}
-use native.Mathlib.Omega.{arith}
+use Prim.Native.Nat.{◌-◌, ◌≤◌}
+use mathlib.Core.Path.{◌≡◌}
 use lib.ListN.{length}
-use borrow.Author.Tests.{leb-true}
 use Rattle.words.specs.Words.{word_at}
 use Rattle.reducing.specs.Steps.{Nodes, Staged}
-use Rattle.reducing.proofs.Stages.{nodes_of, Begin, heights_low, staged_first, staged_ready, staged_numbers, staged_few}
+use Rattle.reducing.proofs.Stages.{Begin}
 use Rattle.reducing.proofs.reduce.Given as goal
 
 abbrev pub invariant-loop-h : goal.invariant-loop-h

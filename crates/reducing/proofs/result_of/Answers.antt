@@ -2,7 +2,6 @@
 use mathlib.Core.Path.{◌∙◌}
 use mathlib.Core.Bool.{true, false}
 use native.Mathlib.Omega.{arith}
-use borrow.Author.Rules.{rules}
 use Rattle.reducing.proofs.Giving.{findable_among, result_dropped, result_made}
 use Rattle.reducing.proofs.result_of.Goals as goal
 

@@ -1,6 +1,5 @@
 -- `reducing::through_of` meets its contract. Assumes nothing.
 use mathlib.Core.Path.{ap, ◌∙◌}
-use borrow.Author.Rules.{rules}
 use Rattle.diagram.specs.Reading.{turn}
 use Rattle.reducing.specs.Levels.{through}
 use Rattle.reducing.proofs.through_of.Goals as goal

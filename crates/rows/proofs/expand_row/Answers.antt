@@ -1,5 +1,5 @@
-use Rattle.std.proofs.Common.{◌-◌, ◌≤◌, arith, rules}
-use Rattle.rows.proofs.Summing.{Left, none_summed, summed, all_summed}
+use Rattle.std.proofs.Common.{arith, rules}
+use Rattle.rows.proofs.Summing.{none_summed, summed, all_summed}
 use Rattle.rows.proofs.expand_row.Goals as goal
 
 pub loop-i-init : goal.loop-i-init

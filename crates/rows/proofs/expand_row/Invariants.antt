@@ -1,6 +1,6 @@
 -- `rows::expand_row` meets its contract. The loop's invariant: the terms before i are summed. Assumes nothing.
-use Rattle.std.proofs.Common.{◌-◌, ◌≤◌, arith, rules}
-use Rattle.rows.proofs.Summing.{Left, none_summed, summed, all_summed}
+use Rattle.std.proofs.Common.{◌-◌, ◌≤◌}
+use Rattle.rows.proofs.Summing.{Left}
 use Rattle.rows.proofs.expand_row.Given as goal
 
 abbrev pub invariant-loop-i : goal.invariant-loop-i

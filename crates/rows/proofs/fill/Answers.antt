@@ -1,4 +1,4 @@
-use Rattle.std.proofs.Common.{◌≡◌, ◌+◌, ◌-◌, ◌≤◌, length, refl, ◌∙◌, subst, arith, rules}
+use Rattle.std.proofs.Common.{◌≡◌, ◌+◌, ◌-◌, length, refl, ◌∙◌, subst, arith}
 use Rattle.rows.specs.Inner.{Rows, Next}
 use Rattle.rows.proofs.Filling.{room_for, sink_row, next_row, row_entered}
 use Rattle.rows.proofs.fill.Goals as goal

@@ -1,7 +1,6 @@
 -- `rows::fill` meets its contract. The loop's invariant: the rows of nodes 0 to k stand for them. Assumes nothing.
-use Rattle.std.proofs.Common.{◌≡◌, ◌+◌, ◌-◌, ◌≤◌, length, refl, ◌∙◌, subst, arith, rules}
-use Rattle.rows.specs.Inner.{Rows, Next}
-use Rattle.rows.proofs.Filling.{room_for, sink_row, next_row, row_entered}
+use Rattle.std.proofs.Common.{◌≡◌, ◌-◌, ◌≤◌, length}
+use Rattle.rows.specs.Inner.{Rows}
 use Rattle.rows.proofs.fill.Given as goal
 
 abbrev pub invariant-loop-k : goal.invariant-loop-k

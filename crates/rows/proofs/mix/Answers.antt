@@ -1,5 +1,4 @@
-use Rattle.std.proofs.Common.{◌≡◌, ◌+◌, ◌-◌, ◌*◌, ◌≤◌, length, refl, ◌∙◌, arith, rules}
-use Rattle.rows.specs.Inner.{Mixes}
+use Rattle.std.proofs.Common.{◌≡◌, ◌+◌, ◌*◌, ◌≤◌, length, refl, ◌∙◌, arith, rules}
 use Rattle.rows.proofs.Placing.{store_long, mixed_none, mixed_next}
 use Rattle.rows.proofs.mix.Goals as goal
 

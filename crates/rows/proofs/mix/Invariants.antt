@@ -1,7 +1,6 @@
 -- `rows::mix` meets its contract. The loop's invariant: i entries are mixed. Assumes nothing.
-use Rattle.std.proofs.Common.{◌≡◌, ◌+◌, ◌-◌, ◌*◌, ◌≤◌, length, refl, ◌∙◌, arith, rules}
+use Rattle.std.proofs.Common.{◌≡◌, ◌-◌, ◌≤◌, length}
 use Rattle.rows.specs.Inner.{Mixes}
-use Rattle.rows.proofs.Placing.{store_long, mixed_none, mixed_next}
 use Rattle.rows.proofs.mix.Given as goal
 
 abbrev pub invariant-loop-i : goal.invariant-loop-i

@@ -1,5 +1,5 @@
 -- `rows::times` meets its contract: a product by halves. Assumes nothing.
-use Rattle.std.proofs.Common.{ℕ, ◌+◌, ◌*◌, ◌%◌, ap, ◌∙◌, arith, rules}
+use Rattle.std.proofs.Common.{ℕ, ◌+◌, ◌*◌, ◌%◌, ap, ◌∙◌, arith}
 use Rattle.rows.proofs.Modular.{halves_fit, by_halves}
 use Rattle.rows.proofs.times.Goals as goal
 

@@ -1,7 +1,6 @@
 -- `rules::check_header` meets its contract: the rules of the header in their order. Assumes nothing.
 use Prim.Native.Nat.{◌+◌, ◌*◌}
 use native.Mathlib.Omega.{arith}
-use borrow.Author.Rules.{rules}
 use Rattle.rules.proofs.Headers.{need_fits, too_short, too_many, wrong_length, wrong_root_lem, too_few, header_passes}
 use Rattle.rules.proofs.check_header.Goals as goal
 

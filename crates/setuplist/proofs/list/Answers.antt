@@ -1,7 +1,6 @@
 -- `setuplist::list` is safe and ends: an accepted table has at most 63 settings. Assumes nothing.
 use mathlib.Core.Path.{sym, ap, ◌∙◌}
 use native.Mathlib.Omega.{arith}
-use borrow.Author.Rules.{rules}
 use Rattle.checking.specs.Answers.{checked_as}
 use Rattle.checking.proofs.Bounds.{shape_fits}
 use Rattle.setuplist.proofs.list.Goals as goal

@@ -1,5 +1,5 @@
 use native.Mathlib.Omega.{arith}
-use Rattle.smaller.proofs.Below.{none_below, node_room, edge_opens, some_block, node_opens, gap_opens, step_filled, falls, node_sum}
+use Rattle.smaller.proofs.Below.{none_below, node_room, edge_opens, node_opens, gap_opens, step_filled, falls, node_sum}
 use Rattle.smaller.proofs.+rank_at.Goals as goal
 
 -- the sink

@@ -1,5 +1,4 @@
 -- `smaller::across_gap` meets its contract. Assumes nothing.
-use borrow.Author.Rules.{rules}
 use Rattle.diagram.proofs.Bits.{shl_pos}
 use Rattle.smaller.proofs.Gap.{product_fits, inside_rest, flagged_fits, plain_fits, flagged_is, plain_is}
 use Rattle.smaller.proofs.across_gap.Goals as goal

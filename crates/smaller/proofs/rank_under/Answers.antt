@@ -1,5 +1,4 @@
 -- `smaller::rank_under` meets its contract. Assumes nothing.
-use borrow.Author.Rules.{rules}
 use Rattle.counting.specs.Inner.{Opens}
 use Rattle.smaller.proofs.Below.{node_room, edge_opens, some_block, node_opens, gap_opens, edge_sum}
 use Rattle.smaller.proofs.rank_under.Goals as goal

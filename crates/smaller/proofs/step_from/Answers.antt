@@ -1,5 +1,4 @@
 -- `smaller::step_from` meets its contract. Assumes nothing.
-use borrow.Author.Rules.{rules}
 use Rattle.diagram.proofs.Inside.{within_room}
 use Rattle.smaller.proofs.Stepping.{tall, low_opens, step_low, step_high}
 use Rattle.smaller.proofs.step_from.Goals as goal

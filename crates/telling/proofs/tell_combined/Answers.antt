@@ -1,6 +1,5 @@
 -- `telling::tell_combined` meets its contract: case by case. Assumes nothing.
 use mathlib.Core.Path.{ap}
-use borrow.Author.Rules.{rules}
 use Rattle.combining.specs.Answers.{combined_as}
 use Rattle.telling.proofs.Telling.{told_bytes, told_fault}
 use Rattle.telling.proofs.tell_combined.Goals as goal

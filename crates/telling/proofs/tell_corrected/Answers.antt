@@ -1,6 +1,5 @@
 -- `telling::tell_corrected` meets its contract: case by case. Assumes nothing.
 use mathlib.Core.Path.{refl, ap}
-use borrow.Author.Rules.{rules}
 use Rattle.correcting.specs.Answers.{corrected_as}
 use Rattle.telling.specs.Told.{double}
 use Rattle.telling.proofs.Telling.{told_value, told_refusal}

@@ -1,6 +1,5 @@
 -- `telling::tell_counted` meets its contract: case by case. Assumes nothing.
 use mathlib.Core.Path.{refl, ap}
-use borrow.Author.Rules.{rules}
 use Rattle.checking.specs.Answers.{counted_as}
 use Rattle.telling.specs.Told.{single}
 use Rattle.telling.proofs.Telling.{told_value, told_refusal}

@@ -1,6 +1,5 @@
 -- `telling::tell_found` meets its contract: case by case. Assumes nothing.
 use mathlib.Core.Path.{refl, ap}
-use borrow.Author.Rules.{rules}
 use Rattle.exclusion.specs.Answers.{found_as}
 use Rattle.telling.specs.Told.{found_words}
 use Rattle.telling.proofs.Telling.{told_value, told_refusal}

@@ -1,12 +1,8 @@
 -- `tightening::copy_words` meets its contract. The loop's invariant: the first k words are copied (`Copied`). Assumes nothing.
-use Prim.Native.Nat.{◌+◌, ◌-◌, ◌*◌, ◌≤◌}
-use mathlib.Core.Path.{◌≡◌, refl, subst, ◌∙◌}
-use native.Mathlib.Omega.{arith}
-use borrow.Author.Rules.{rules}
+use Prim.Native.Nat.{◌-◌, ◌≤◌}
+use mathlib.Core.Path.{◌≡◌}
 use lib.ListN.{length}
-use Rattle.words.proofs.Stores.{stored, stored_long}
 use Rattle.tightening.specs.Inner.{Copied}
-use Rattle.tightening.proofs.Copies.{copied_next}
 use Rattle.tightening.proofs.copy_words.Given as goal
 
 abbrev pub invariant-loop-k : goal.invariant-loop-k

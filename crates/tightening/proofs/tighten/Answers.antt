@@ -1,6 +1,5 @@
 -- `tightening::tighten` meets its contract: the nodes that the root leads to are gathered, and written as a table. Assumes nothing.
 use native.Mathlib.Omega.{arith}
-use borrow.Author.Rules.{rules}
 use Rattle.tightening.proofs.Nodes.{loosely_within, nodes_hold, nodes_written}
 use Rattle.tightening.proofs.tighten.Goals as goal
 

@@ -1,8 +1,6 @@
-use Prim.Native.Nat.{◌≤◌}
 use native.Mathlib.Omega.{arith}
-use borrow.Author.Rules.{rules}
 use Rattle.descent.proofs.Ways.{stands_low}
-use Rattle.trail.specs.Inner.{Follows, FollowsOn}
+use Rattle.trail.specs.Inner.{Follows}
 use Rattle.trail.proofs.Keeping.{digits_few, advanced, next_keepable, at_node}
 use Rattle.trail.proofs.cross.Goals as goal
 use Rattle.trail.proofs.cross.Goals.{At-loop-way}

@@ -1,10 +1,6 @@
 -- `trail::cross` meets its contract. The loop's invariant: the way is followed on. Assumes nothing.
 use Prim.Native.Nat.{◌≤◌}
-use native.Mathlib.Omega.{arith}
-use borrow.Author.Rules.{rules}
-use Rattle.descent.proofs.Ways.{stands_low}
-use Rattle.trail.specs.Inner.{Follows, FollowsOn}
-use Rattle.trail.proofs.Keeping.{digits_few, advanced, next_keepable, at_node}
+use Rattle.trail.specs.Inner.{FollowsOn}
 use Rattle.trail.proofs.cross.Given as goal
 
 abbrev pub invariant-loop-way : goal.invariant-loop-way

@@ -1,6 +1,5 @@
 use native.Mathlib.Omega.{arith}
-use borrow.Author.Rules.{rules}
-use Rattle.trail.specs.Inner.{Follows, FollowsOn}
+use Rattle.trail.specs.Inner.{Follows}
 use Rattle.trail.proofs.Keeping.{digits_few, advanced, next_keepable, reached}
 use Rattle.trail.proofs.follow.Goals as goal
 use Rattle.trail.proofs.follow.Goals.{At-loop-way}

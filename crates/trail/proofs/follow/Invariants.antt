@@ -1,8 +1,5 @@
 -- `trail::follow` meets its contract. The loop's invariant: the way is followed on, and its node's setting is the next. Assumes nothing.
-use native.Mathlib.Omega.{arith}
-use borrow.Author.Rules.{rules}
-use Rattle.trail.specs.Inner.{Follows, FollowsOn}
-use Rattle.trail.proofs.Keeping.{digits_few, advanced, next_keepable, reached}
+use Rattle.trail.specs.Inner.{FollowsOn}
 use Rattle.trail.proofs.follow.Given as goal
 
 abbrev pub invariant-loop-way : goal.invariant-loop-way

@@ -1,6 +1,4 @@
-use Prim.Native.Nat.{ℕ, ◌-◌, ◌≤◌, ◌<◌}
 use native.Mathlib.Omega.{arith}
-use lib.ListN.{get_or}
 use Rattle.trail.proofs.Resuming.{not_left, one_more_left, first_left}
 use Rattle.trail.proofs.leave.Goals as goal
 

@@ -1,8 +1,6 @@
 -- `trail::leave` meets its contract. The loop's invariant: the first h ends are not above r. Assumes nothing.
 use Prim.Native.Nat.{ℕ, ◌-◌, ◌≤◌, ◌<◌}
-use native.Mathlib.Omega.{arith}
 use lib.ListN.{get_or}
-use Rattle.trail.proofs.Resuming.{not_left, one_more_left, first_left}
 use Rattle.trail.proofs.leave.Given as goal
 
 abbrev pub invariant-loop-h : goal.invariant-loop-h

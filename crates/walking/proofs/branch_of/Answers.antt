@@ -1,5 +1,4 @@
 -- `walking::branch_of` meets its contract. Assumes nothing.
-use borrow.Author.Rules.{rules}
 use Rattle.diagram.proofs.Inside.{inside_tall}
 use Rattle.walking.proofs.Walking.{branch_high, branch_low}
 use Rattle.walking.proofs.branch_of.Goals as goal

@@ -1,6 +1,5 @@
 -- `walking::fork_at` meets its contract. Assumes nothing.
 use native.Mathlib.Omega.{arith}
-use borrow.Author.Rules.{rules}
 use Rattle.walking.proofs.Forking.{node_room, forks}
 use Rattle.walking.proofs.fork_at.Goals as goal
 

@@ -1,6 +1,5 @@
 -- `walking::permitted_under` meets its contract: the flag of the edge is taken off first. Assumes nothing.
 use mathlib.Core.Path.{sym, subst, ◌∙◌}
-use borrow.Author.Rules.{rules}
 use Rattle.diagram.specs.Reading.{Within}
 use Rattle.diagram.proofs.Edges.{under_flagged, under_plain}
 use Rattle.walking.proofs.permitted_under.Goals as goal

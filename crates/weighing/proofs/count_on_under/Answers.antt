@@ -1,7 +1,6 @@
 -- `weighing::count_on_under` meets its contract: none where there are fewer settings, otherwise by rows. Assumes nothing.
 use mathlib.Core.Path.{sym}
 use native.Mathlib.Omega.{arith}
-use borrow.Author.Rules.{rules}
 use Rattle.pascal.proofs.Weights.{on_past}
 use Rattle.rows.specs.Inner.{Opens}
 use Rattle.rows.proofs.Filling.{root_opens}

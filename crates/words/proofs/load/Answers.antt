@@ -1,6 +1,5 @@
 -- `words::load` meets its contract: the eight bytes in the opposite order are the word. Assumes nothing.
 use mathlib.Core.Path.{ap, ◌∙◌}
-use borrow.Author.Rules.{rules}
 use native.Mathlib.Omega.{arith}
 use Rattle.words.specs.Swap.{swap}
 use Rattle.words.proofs.Swaps.{swap_loads}

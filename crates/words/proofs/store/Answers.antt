@@ -1,5 +1,4 @@
 -- `words::store` meets its contract: each store keeps the length, and the eight are the word's, in the opposite order. Assumes nothing.
-use borrow.Author.Rules.{rules}
 use native.Mathlib.Omega.{arith}
 use lib.ListN.{length-set}
 use Rattle.words.proofs.Swaps.{swap_stores}

@@ -1,6 +1,5 @@
 -- `words::swapped` meets its contract: its eight terms are the definition's. Assumes nothing.
 use mathlib.Core.Path.{refl}
-use borrow.Author.Rules.{rules}
 use Rattle.words.specs.Swap.{swap}
 use Rattle.words.proofs.swapped.Goals as goal
 

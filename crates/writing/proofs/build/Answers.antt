@@ -1,6 +1,5 @@
 -- `writing::build` meets its contract. Assumes nothing.
 use native.Mathlib.Omega.{arith}
-use borrow.Author.Rules.{rules}
 use Rattle.words.specs.Words.{word_at}
 use Rattle.cutting.proofs.Extended.{room_same}
 use Rattle.writing.proofs.Builds.{none_ordered, first_ordered, first_inside, twice_cut, second_inside, built}

@@ -1,5 +1,4 @@
 -- `writing::write_nothing` meets its contract. Assumes nothing.
-use borrow.Author.Rules.{rules}
 use Rattle.writing.proofs.Nothing.{nothing_short, nothing_written}
 use Rattle.writing.proofs.write_nothing.Goals as goal
 

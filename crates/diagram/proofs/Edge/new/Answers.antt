@@ -1,5 +1,4 @@
 -- `diagram::Edge::new` meets its contract. Assumes nothing.
-use borrow.Author.Rules.{rules}
 use native.Mathlib.Omega.{arith}
 use Rattle.diagram.specs.Count.{indicator}
 use Rattle.diagram.proofs.Edge.new.Goals as goal

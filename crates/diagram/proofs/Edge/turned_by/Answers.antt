@@ -1,5 +1,4 @@
 -- `diagram::Edge::turned_by` meets its contract. Assumes nothing.
-use borrow.Author.Rules.{rules}
 use Rattle.diagram.proofs.Edges.{turned_set, turned_clear}
 use Rattle.diagram.proofs.Edge.turned_by.Goals as goal
 

@@ -1,6 +1,5 @@
 -- `diagram::Header::word` meets its contract. Assumes nothing.
 use mathlib.Core.Path.{refl}
-use borrow.Author.Rules.{rules}
 use Rattle.diagram.specs.Reading.{record_of}
 use Rattle.diagram.proofs.Header.word.Goals as goal
 

@@ -1,5 +1,4 @@
 -- `diagram::Record::cofactors` meets its contract. Assumes nothing.
-use borrow.Author.Rules.{rules}
 use Rattle.diagram.proofs.Record.cofactors.Goals as goal
 
 pub returns : goal.returns

@@ -1,6 +1,5 @@
 -- `diagram::Record::word` meets its contract. Assumes nothing.
 use mathlib.Core.Path.{refl}
-use borrow.Author.Rules.{rules}
 use Rattle.diagram.specs.Reading.{record_of}
 use Rattle.diagram.proofs.Record.word.Goals as goal
 

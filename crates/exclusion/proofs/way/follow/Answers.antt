@@ -1,11 +1,7 @@
-use Prim.Native.Nat.{◌/◌}
 use mathlib.Core.Path.{refl}
 use native.Mathlib.Omega.{arith}
-use borrow.Author.Rules.{rules}
-use Rattle.words.specs.Words.{word_at}
-use Rattle.diagram.specs.Format.{height}
 use Rattle.diagram.specs.Meaning.{bit}
-use Rattle.exclusion.proofs.Following.{Reaches, reaches_first, reaches_next}
+use Rattle.exclusion.proofs.Following.{reaches_first, reaches_next}
 use Rattle.exclusion.proofs.way.follow.Goals as goal
 
 pub overflow_add-way : goal.overflow_add-way

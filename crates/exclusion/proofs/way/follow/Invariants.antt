@@ -1,12 +1,8 @@
 -- `exclusion::way::follow` meets its contract. The loop's invariant: the way has reached an edge. Assumes nothing.
 use Prim.Native.Nat.{◌/◌}
-use mathlib.Core.Path.{refl}
-use native.Mathlib.Omega.{arith}
-use borrow.Author.Rules.{rules}
 use Rattle.words.specs.Words.{word_at}
 use Rattle.diagram.specs.Format.{height}
-use Rattle.diagram.specs.Meaning.{bit}
-use Rattle.exclusion.proofs.Following.{Reaches, reaches_first, reaches_next}
+use Rattle.exclusion.proofs.Following.{Reaches}
 use Rattle.exclusion.proofs.way.follow.Given as goal
 
 abbrev pub invariant-loop-x : goal.invariant-loop-x

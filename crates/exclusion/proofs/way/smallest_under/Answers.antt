@@ -1,12 +1,7 @@
-use Prim.Native.Nat.{◌/◌}
 use mathlib.Core.Path.{refl, ap, ◌∙◌}
-use mathlib.Core.Logic.{inl, inr}
 use native.Mathlib.Omega.{arith}
 use lib.Dec.{eqb}
-use borrow.Author.Rules.{rules}
-use Rattle.words.specs.Words.{word_at}
-use Rattle.diagram.specs.Format.{height}
-use Rattle.exclusion.proofs.Seeking.{Seeks, seeks_first, turns, seeks_off, seeks_on, sought}
+use Rattle.exclusion.proofs.Seeking.{seeks_first, turns, seeks_off, seeks_on, sought}
 use borrow.Author.Tests.{eq-eqb, ne_eqb}
 use Rattle.exclusion.proofs.way.smallest_under.Goals as goal
 use Rattle.exclusion.proofs.way.smallest_under.Goals.{then-on, else-on}

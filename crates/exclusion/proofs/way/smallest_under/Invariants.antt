@@ -1,13 +1,8 @@
 -- `exclusion::way::smallest_under` meets its contract. The loop's invariant: the settings chosen so far. Assumes nothing.
 use Prim.Native.Nat.{◌/◌}
-use mathlib.Core.Path.{refl, ap, ◌∙◌}
-use mathlib.Core.Logic.{inl, inr}
-use native.Mathlib.Omega.{arith}
-use lib.Dec.{eqb}
-use borrow.Author.Rules.{rules}
 use Rattle.words.specs.Words.{word_at}
 use Rattle.diagram.specs.Format.{height}
-use Rattle.exclusion.proofs.Seeking.{Seeks, seeks_first, turns, seeks_off, seeks_on, sought}
+use Rattle.exclusion.proofs.Seeking.{Seeks}
 use Rattle.exclusion.proofs.way.smallest_under.Given as goal
 
 abbrev pub invariant-loop-edge : goal.invariant-loop-edge

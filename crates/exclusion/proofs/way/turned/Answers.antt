@@ -1,5 +1,4 @@
 -- `exclusion::way::turned` meets its contract. Assumes nothing.
-use borrow.Author.Rules.{rules}
 use Rattle.exclusion.proofs.Turning.{turned_off, next_fits, turned_on}
 use Rattle.exclusion.proofs.way.turned.Goals as goal
 

@@ -1,12 +1,9 @@
 -- `lists::order::check_rising` meets its contract. The loop's invariant: the first i ranks do not fall. Assumes nothing.
 use Prim.Native.Nat.{◌-◌, ◌≤◌, ◌<◌}
 use mathlib.Core.Path.{◌≡◌}
-use native.Mathlib.Omega.{arith}
-use borrow.Author.Rules.{rules}
 use Rattle.words.specs.Words.{word_at}
 use Rattle.diagram.specs.Answer.{pass}
 use Rattle.lists.specs.Operations.{check_rising}
-use Rattle.lists.proofs.Ranks.{rising_one, rising_falls, rising_next, rising_all}
 use Rattle.lists.proofs.order.check_rising.Given as goal
 
 abbrev pub invariant-loop-i : goal.invariant-loop-i

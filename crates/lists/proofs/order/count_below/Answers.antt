@@ -1,7 +1,4 @@
-use Prim.Native.Nat.{ℕ, ◌≤◌, ◌<◌}
 use native.Mathlib.Omega.{arith}
-use borrow.Author.Rules.{rules}
-use Rattle.words.specs.Words.{word_at}
 use Rattle.lists.proofs.Ranks.{parted_here, parted_down, parted_none}
 use Rattle.lists.proofs.order.count_below.Goals as goal
 

@@ -1,9 +1,6 @@
 -- `lists::order::count_below` meets its contract. The loop's invariant: the ranks from i on are not below c. Assumes nothing.
 use Prim.Native.Nat.{ℕ, ◌≤◌, ◌<◌}
-use native.Mathlib.Omega.{arith}
-use borrow.Author.Rules.{rules}
 use Rattle.words.specs.Words.{word_at}
-use Rattle.lists.proofs.Ranks.{parted_here, parted_down, parted_none}
 use Rattle.lists.proofs.order.count_below.Given as goal
 
 abbrev pub invariant-loop-i : goal.invariant-loop-i

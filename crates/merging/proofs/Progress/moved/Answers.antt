@@ -1,6 +1,5 @@
 -- `merging::Progress::moved` meets its contract. Assumes nothing.
 use mathlib.Core.Path.{refl}
-use borrow.Author.Rules.{rules}
 use Rattle.merging.proofs.Moves.{moved_first, moved_second}
 use Rattle.merging.proofs.Progress.moved.Goals as goal
 

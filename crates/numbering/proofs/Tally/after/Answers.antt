@@ -1,6 +1,5 @@
 -- `numbering::Tally::after` meets its contract. Assumes nothing.
 use mathlib.Core.Path.{refl, sym}
-use borrow.Author.Rules.{rules}
 use Rattle.numbering.specs.Renewal.{same_record, new_record}
 use Rattle.numbering.proofs.Tally.after.Goals as goal
 

@@ -1,12 +1,9 @@
 -- `records::names::all_marked` meets its contract. The loop's invariant: nodes 1 to k have marks, if `all` says so. Assumes nothing.
-use Prim.Native.Nat.{ℕ, ◌-◌, ◌≤◌}
-use mathlib.Core.Path.{◌≡◌, refl, sym, subst}
-use mathlib.Core.Bool.{true, true≢false}
-use native.Mathlib.Omega.{arith}
-use borrow.Author.Rules.{rules}
-use Rattle.diagram.specs.Answer.{pass, each}
+use Prim.Native.Nat.{◌-◌, ◌≤◌}
+use mathlib.Core.Path.{◌≡◌}
+use mathlib.Core.Bool.{true}
+use Rattle.diagram.specs.Answer.{pass}
 use Rattle.records.specs.Inner.{check_marks}
-use Rattle.records.proofs.Marks.{marks_passed}
 use Rattle.records.proofs.names.all_marked.Given as goal
 
 abbrev pub invariant-loop-k : goal.invariant-loop-k

@@ -1,8 +1,6 @@
-use Prim.Native.Nat.{◌-◌, ◌≤◌}
 use mathlib.Core.Path.{◌≡◌, refl, sym, ◌∙◌}
 use native.Mathlib.Omega.{arith}
-use borrow.Author.Rules.{rules}
-use Rattle.diagram.specs.Answer.{pass, each}
+use Rattle.diagram.specs.Answer.{each}
 use Rattle.records.specs.Inner.{check_marks}
 use Rattle.records.proofs.Marks.{marks_refused, marks_passed}
 use Rattle.records.proofs.names.check_marks.Goals as goal

@@ -1,11 +1,8 @@
 -- `records::names::check_marks` meets its contract. The loop's invariant: nodes 1 to k have marks. Assumes nothing.
 use Prim.Native.Nat.{◌-◌, ◌≤◌}
-use mathlib.Core.Path.{◌≡◌, refl, sym, ◌∙◌}
-use native.Mathlib.Omega.{arith}
-use borrow.Author.Rules.{rules}
-use Rattle.diagram.specs.Answer.{pass, each}
+use mathlib.Core.Path.{◌≡◌}
+use Rattle.diagram.specs.Answer.{pass}
 use Rattle.records.specs.Inner.{check_marks}
-use Rattle.records.proofs.Marks.{marks_refused, marks_passed}
 use Rattle.records.proofs.names.check_marks.Given as goal
 
 abbrev pub invariant-loop-k : goal.invariant-loop-k

@@ -1,16 +1,11 @@
 -- `records::pass::check_records` meets its contract. The loop's invariant: the first k records pass, and what they name is marked. Assumes nothing.
-use Prim.Native.Nat.{ℕ, ◌+◌, ◌-◌, ◌/◌, ◌≤◌, ◌<◌}
-use mathlib.Core.Path.{◌≡◌, refl, sym, subst, ◌∙◌}
-use native.Mathlib.Omega.{arith}
+use Prim.Native.Nat.{◌-◌, ◌≤◌}
+use mathlib.Core.Path.{◌≡◌}
 use lib.ListN.{length}
-use borrow.Author.Rules.{rules}
 use Rattle.words.specs.Words.{word_at}
-use Rattle.diagram.specs.Answer.{pass, each}
-use Rattle.diagram.specs.Rules.{check_record, check_records}
+use Rattle.diagram.specs.Answer.{pass}
+use Rattle.diagram.specs.Rules.{check_records}
 use Rattle.records.specs.Inner.{Marked}
-use Rattle.rules.proofs.Turns.{turn_refused, turn_passed}
-use Rattle.records.proofs.Turns.{names_lower}
-use Rattle.records.proofs.Marks.{marks_next}
 use Rattle.records.proofs.pass.check_records.Given as goal
 
 abbrev pub invariant-loop-k : goal.invariant-loop-k

@@ -1,7 +1,4 @@
 -- `records::pass::in_level` meets its contract. Assumes nothing.
-use mathlib.Core.Path.{sym}
-use mathlib.Core.Bool.{true≢false}
-use borrow.Author.Rules.{rules}
 use Rattle.records.proofs.Levels.{in_level_lem}
 use Rattle.records.proofs.pass.in_level.Goals as goal
 

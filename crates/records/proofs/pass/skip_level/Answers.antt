@@ -1,13 +1,11 @@
-use Prim.Native.Nat.{◌+◌, ◌-◌, ◌/◌, ◌≤◌, ◌<◌}
-use mathlib.Core.Path.{◌≡◌, refl, ◌∙◌}
+use Prim.Native.Nat.{◌+◌, ◌/◌, ◌≤◌, ◌<◌}
+use mathlib.Core.Path.{refl, ◌∙◌}
 use native.Mathlib.Omega.{arith}
 use native.Mathlib.Nat.{le_refl}
 use lib.ListN.{length}
-use borrow.Author.Rules.{rules}
-use borrow.Author.Tests.{not-false}
 use Rattle.words.specs.Words.{word_at}
 use Rattle.diagram.specs.Count.{indicator}
-use Rattle.records.specs.Inner.{PassFrom, Marked}
+use Rattle.records.specs.Inner.{PassFrom}
 use Rattle.records.proofs.Levels.{level_next}
 use Rattle.records.proofs.Marks.{marks_next}
 use Rattle.records.proofs.pass.skip_level.Goals as goal

@@ -1,16 +1,9 @@
 -- `records::pass::skip_level` meets its contract. The loop's invariant: the records up to `at` pass if those up to k do, they ascend from k on, and what they name is marked. Assumes nothing.
-use Prim.Native.Nat.{◌+◌, ◌-◌, ◌/◌, ◌≤◌, ◌<◌}
-use mathlib.Core.Path.{◌≡◌, refl, ◌∙◌}
-use native.Mathlib.Omega.{arith}
-use native.Mathlib.Nat.{le_refl}
+use Prim.Native.Nat.{◌-◌, ◌≤◌}
+use mathlib.Core.Path.{◌≡◌}
 use lib.ListN.{length}
-use borrow.Author.Rules.{rules}
-use borrow.Author.Tests.{not-false}
 use Rattle.words.specs.Words.{word_at}
-use Rattle.diagram.specs.Count.{indicator}
 use Rattle.records.specs.Inner.{PassFrom, Marked}
-use Rattle.records.proofs.Levels.{level_next}
-use Rattle.records.proofs.Marks.{marks_next}
 use Rattle.records.proofs.pass.skip_level.Given as goal
 
 abbrev pub invariant-loop-at : goal.invariant-loop-at

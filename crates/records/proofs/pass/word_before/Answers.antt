@@ -1,5 +1,4 @@
 -- `records::pass::word_before` meets its contract. Assumes nothing.
-use borrow.Author.Rules.{rules}
 use borrow.Author.Tests.{lt-ltb, le-ltb}
 use Rattle.records.proofs.pass.word_before.Goals as goal
 
