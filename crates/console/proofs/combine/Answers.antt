@@ -1,5 +1,4 @@
 -- `console::combine` meets its contract. Assumes nothing.
-use borrow.Author.Rules.{rules}
 use Rattle.console.proofs.combine.Goals as goal
 
 pub returns : goal.returns

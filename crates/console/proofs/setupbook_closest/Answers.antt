@@ -1,6 +1,5 @@
 -- `console::setupbook_closest` meets its contract. Assumes nothing.
 use mathlib.Core.Path.{ap, ◌∙◌}
-use borrow.Author.Rules.{rules}
 use Rattle.telling.specs.Told.{double, returned, told}
 use Rattle.console.proofs.setupbook_closest.Goals as goal
 

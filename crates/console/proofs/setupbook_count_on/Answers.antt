@@ -1,6 +1,5 @@
 -- `console::setupbook_count_on` meets its contract. Assumes nothing.
 use mathlib.Core.Path.{ap, ◌∙◌}
-use borrow.Author.Rules.{rules}
 use Rattle.telling.specs.Told.{single, returned, told}
 use Rattle.console.proofs.setupbook_count_on.Goals as goal
 

@@ -1,6 +1,5 @@
 -- `console::setupbook_make_proper` meets its contract. Assumes nothing.
 use mathlib.Core.Path.{ap, ◌∙◌}
-use borrow.Author.Rules.{rules}
 use Rattle.tightening.proofs.Promised.{as_defined}
 use Rattle.telling.specs.Told.{single, returned, told}
 use Rattle.console.proofs.setupbook_make_proper.Goals as goal

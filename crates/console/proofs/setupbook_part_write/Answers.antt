@@ -1,6 +1,5 @@
 -- `console::setupbook_part_write` meets its contract. Assumes nothing.
 use mathlib.Core.Path.{sym, ap, ◌∙◌}
-use borrow.Author.Rules.{rules}
 use Rattle.rules.proofs.Packing.{packed_value, packed_refusal}
 use Rattle.tables.specs.Answers.{written_as}
 use Rattle.parts.proofs.Promised.{as_defined}

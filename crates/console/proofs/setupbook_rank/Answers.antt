@@ -1,6 +1,5 @@
 -- `console::setupbook_rank` meets its contract. Assumes nothing.
 use mathlib.Core.Path.{sym, ap, ◌∙◌}
-use borrow.Author.Rules.{rules}
 use Rattle.rules.proofs.Packing.{packed_value, packed_refusal}
 use Rattle.ranking.specs.Answers.{ranked_as}
 use Rattle.ranking.proofs.Bounds.{ranking_place}

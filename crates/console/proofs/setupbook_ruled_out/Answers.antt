@@ -1,6 +1,5 @@
 -- `console::setupbook_ruled_out` meets its contract. Assumes nothing.
 use mathlib.Core.Path.{ap, ◌∙◌}
-use borrow.Author.Rules.{rules}
 use Rattle.telling.specs.Told.{found_words, returned, told}
 use Rattle.console.proofs.setupbook_ruled_out.Goals as goal
 

@@ -1,6 +1,5 @@
 -- `console::setupbook_unrank_list` meets its contract. Assumes nothing.
 use mathlib.Core.Path.{ap}
-use borrow.Author.Rules.{rules}
 use Rattle.lists.specs.Answers.{listed_as}
 use Rattle.telling.proofs.Telling.{told_value, told_refusal}
 use Rattle.console.proofs.setupbook_unrank_list.Goals as goal
