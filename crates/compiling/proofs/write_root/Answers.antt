@@ -77,7 +77,7 @@ returns c =
     let g = c.write_table in
     record {
       writes = λ F means. wrote _ _ _ _ _ p _ _ F means _ o.2 o.0 g.new.out _
-          (bytes_front g.new.out (drop m out) (λ i. omega (arith, c.slice_known-4-1.given i))) (g.ensures.1 ∙ l) c.if-out-end.false
+          (bytes_front g.new.out (drop m out) (λ i. omega (arith, c.type_inv.out i))) (g.ensures.1 ∙ l) c.if-out-end.false
           (rw (← c.through_of-top.ensures) g.ensures.0) refl;
       counts = λ F means sink few. (_, fewer _ _ _ _ _ p _ _ _ o.2 sink, table_counts _ _ _ _ _ p _ _ F means out o.2 o.0);
     }

@@ -7,12 +7,12 @@ use Rattle.diagram.proofs.Fields.{height_sink, height_byte}
 use Rattle.diagram.proofs.height_at.Goals as goal
 
 pub overflow_cast-h : goal.overflow_cast-h
-overflow_cast-h c = omega (arith, c.shared_slice_known-1.given (8 * c.args.k.0))
+overflow_cast-h c = omega (arith, c.type_inv.table (8 * c.args.k.0))
 
 pub returns-then-i-eq0 : goal.returns-then-i-eq0
 returns-then-i-eq0 c = (sym (height_sink _ _ c.if-i-eq0.true), omega arith)
 
 pub returns : goal.returns
 returns c =
-    let g = c.shared_slice_known-1.given in
+    let g = c.type_inv.table in
     (height_byte _ _ (search rules) (λ i. omega (arith, g i)), omega (arith, g (8 * c.args.k.0)))

@@ -16,7 +16,7 @@ has_misled-misled-requires c =
     let p = c.requires in
     ((fields_of _ c.args.n _ _ _ _ _ _ p.0 p.2 p.3 c.of-record.ensures).height_is, p.1)
 
--- the by_rules in their order, by what the tests of the height and of the edges have given
+-- the rules in their order, by what the tests of the height and of the edges have given
 by_rules : (c : After-has_misled-misled) → let a = c.args in let k = a.k.0 in let r = c.of-record.result in
     check_record (word_at a.table.now) a.n k
     ≡ cond c.is_unfit-unfit.result (refusal 4 k)

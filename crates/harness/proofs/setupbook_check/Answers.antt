@@ -9,13 +9,13 @@ use Rattle.harness.proofs.setupbook_check.Goals as goal
 pub overflow_mul-result : goal.overflow_mul-result
 overflow_mul-result c =
     let e = c.check-checked.ensures in
-    let f = shape_fits _ _ _ _ (λ i. omega (arith, c.shared_slice_known-1.given i)) (sym (ap checked_as c.in-Table.is) ∙ e.0) in
+    let f = shape_fits _ _ _ _ (λ i. omega (arith, c.type_inv.table i)) (sym (ap checked_as c.in-Table.is) ∙ e.0) in
     omega (arith, f.0)
 
 pub overflow_add-result : goal.overflow_add-result
 overflow_add-result c =
     let e = c.check-checked.ensures in
-    let f = shape_fits _ _ _ _ (λ i. omega (arith, c.shared_slice_known-1.given i)) (sym (ap checked_as c.in-Table.is) ∙ e.0) in
+    let f = shape_fits _ _ _ _ (λ i. omega (arith, c.type_inv.table i)) (sym (ap checked_as c.in-Table.is) ∙ e.0) in
     omega (arith, f.0, f.1)
 
 pub pack_refusal-requires : goal.pack_refusal-requires

@@ -16,7 +16,7 @@ overflow_mul-end c = record { fits = omega (arith, c.requires.few) }
 
 pub returns-then-out-end : goal.returns-then-out-end
 returns-then-out-end c =
-    copy_refused _ _ _ (λ i. omega (arith, c.shared_slice_known-1.given i)) c.requires _ c.if-out-end.true
+    copy_refused _ _ _ (λ i. omega (arith, c.type_inv.table i)) c.requires _ c.if-out-end.true
 
 pub slice_bounds-copy_words-end-2 : goal.slice_bounds-copy_words-end-2
 slice_bounds-copy_words-end-2 c =
@@ -35,5 +35,5 @@ returns c =
     let m = 8 * (c.args.nodes + 1) in
     let out = c.args.out.now in
     let g = c.copy_words in
-    copy_written _ _ _ (λ i. omega (arith, c.shared_slice_known-1.given i)) c.requires _ g.new.out _ c.if-out-end.false
-    (bytes_front g.new.out (drop m out) (λ i. omega (arith, c.slice_known-2-1.given i))) (g.ensures.1 ∙ length-take-le m out c.if-out-end.false) g.ensures.0 refl
+    copy_written _ _ _ (λ i. omega (arith, c.type_inv.table i)) c.requires _ g.new.out _ c.if-out-end.false
+    (bytes_front g.new.out (drop m out) (λ i. omega (arith, c.type_inv.out i))) (g.ensures.1 ∙ length-take-le m out c.if-out-end.false) g.ensures.0 refl

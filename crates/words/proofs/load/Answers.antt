@@ -6,4 +6,4 @@ use Rattle.words.proofs.Swaps.{swap_loads}
 use Rattle.words.proofs.load.Goals as goal
 
 pub returns : goal.returns
-returns c = ap swap c.little_of.ensures ∙ swap_loads _ _ (λ i. omega (arith, c.shared_slice_known-9-1.given i))
+returns c = ap swap c.little_of.ensures ∙ swap_loads _ _ (λ i. omega (arith, c.type_inv.bytes i))

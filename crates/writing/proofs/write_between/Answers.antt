@@ -33,4 +33,4 @@ returns c =
     let l = length-take-le m c.args.out.now c.if-out-end.false in
     let g = c.write_table in
     wrote _ _ _ _ _ _ _ _ _ _ c.build-built.ensures.0 _ c.if-built-gt65535.false g.new.out _
-    (bytes_front g.new.out (drop m c.args.out.now) (λ i. omega (arith, c.slice_known-4-1.given i))) (g.ensures.1 ∙ l) c.if-out-end.false g.ensures.0 refl
+    (bytes_front g.new.out (drop m c.args.out.now) (λ i. omega (arith, c.type_inv.out i))) (g.ensures.1 ∙ l) c.if-out-end.false g.ensures.0 refl
