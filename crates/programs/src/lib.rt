@@ -1,7 +1,7 @@
 // What the programs share: reading a table from standard input, and saying texts, numbers and refusals on standard output.
 #![tactic(auto)]
 
-ghost use Rattle.std.specs.Prelude.{◌≤◌, length, IfOk};
+ghost use Rattle.std.specs.Prelude.{◌≡◌, ◌≤◌, length, IfOk, OnErr};
 ghost use Rattle.programs.specs.Reading.{IsPrefixLen};
 
 use rules::Refusal;
@@ -53,9 +53,11 @@ fn read_full<R: Read>(from: &mut R, memory: &mut [u8]) -> io::Result<usize>
     Ok(length)
 }
 
-// Reads a table of at most 4,096 bytes; of a longer one it says `too long`.
+// Reads a table of at most 4,096 bytes; of a longer one it says `too long`. A failed read or write is returned; what was read by then
+// stands in the memory, which is as long as it was.
 pub fn read_table<R: io::Input + Print>(rt: &R, memory: &mut [u8; 4097]) -> io::Result<Input>
-    ensures { IfOk result (λ input. IsPrefixLen input.length memory.new) }
+    ensures ok { IfOk result (λ input. IsPrefixLen input.length memory.new) }
+    ensures err { OnErr result (length memory.new ≡ length memory.old) }
 {
     let length = read_full(&mut rt.reader(), memory)?;
     let whole = length <= 4096;
