@@ -6,7 +6,7 @@ VERSION = 0.1.0
 prefix = $(abspath $(PREFIX))
 root = $(DESTDIR)$(prefix)
 archive = target/staticlib/libconsole.a
-sources = crates.txt $(shell find crates -name '*.rt' -o -name '*.antt')
+sources = crates.txt $(shell find crates -name out -prune -o \( -name '*.rt' -o -name '*.antt' \) -print)
 
 all: $(archive)
 
