@@ -1,14 +1,12 @@
 // Prints the table of binomial coefficients, one number a line, row by row.
 #![tactic(auto)]
 
-use programs::{say, say_number};
 use std::io;
+use std::io::Print;
 
 fn main(rt: HostRuntime) -> io::Result<()> {
-    let table = pascal::binomials();
-    for at in 0..2080 {
-        say_number(&rt, b"", table[at])?;
-        say(&rt, b"\n")?;
+    for entry in pascal::binomials() {
+        rt.println(entry)?;
     }
     Ok(())
 }

@@ -1,22 +1,13 @@
 // Compares the library with a reader of its own, which takes the paper at its word and tries every setup.
 #![tactic(auto)]
 
-ghost use Rattle.std.specs.Prelude.{◌≤◌, ◌<◌};
+ghost use Rattle.std.specs.Prelude.{◌/◌, ◌≤◌, ◌<◌, length};
 
-use checking::{Counted, Tested};
 use diagram::{Rank, Setup};
-use programs::{say, say_number};
-use ranking::{Ranked, Unranked};
+use programs::{A, bytes_of};
+use rules::Refusal;
 use std::io;
 use std::io::Print;
-
-// Table A.
-const A: [u64; 4] = [
-    0x0C00000060000006,
-    0x0400000000000001,
-    0x0800000040000003,
-    0x0C00000080000000,
-];
 
 // The first three permitted setups of A.
 const FIRST_HALF: [u64; 4] = [
@@ -100,30 +91,14 @@ const RANDOM_6: [u64; 13] = [
     0x18000002C0000015,
 ];
 
-// The reader's answer to a setup. Lost: a record is missing or has height 0, or the walk does not end.
-#[derive(Clone, Copy)]
-enum Reading {
-    Permitted,
-    Forbidden,
-    Lost,
-}
-
-fn wide(x: u8) -> u64 {
-    x as u64
-}
-
 // Word k of a row of bytes, most significant byte first; 0 past the end.
 fn word(bytes: &[u8], k: usize) -> u64 {
     if bytes.len() / 8 <= k {
         return 0;
     }
-    let mut w: u64 = 0;
-    let mut i = 0;
-    while i < 8 {
-        w = (w << 8) | wide(bytes[8 * k + i]);
-        i += 1;
-    }
-    w
+    bytes[8 * k..8 * k + 8]
+        .iter()
+        .fold(0, |w, &byte| w << 8 | u64::from(byte))
 }
 
 // A word's first 6 bits: n, or a height.
@@ -143,276 +118,164 @@ fn lower(w: u64) -> u64 {
     w % 0x20000000
 }
 
-// Reads setup x from an edge on: a node of height h takes its then-edge if the bit of weight 2^(h-1) is 1.
-fn read(table: &[u8], start: u64, x: u64) -> Reading {
+// Reads setup x from an edge on: a node of height h takes its then-edge if the bit of weight 2^(h-1) is 1. Permitted if the number of set
+// flags passed is even. None where the walk is lost: a record is missing or has height 0, or the walk does not end.
+fn read(table: &[u8], start: u64, x: u64) -> Option<bool> {
     let mut edge = start;
-    let mut flags = 0;
-    let mut steps: u64 = 0;
-    while steps < 64 {
-        flags += edge % 2;
+    let mut permitted = true;
+    for _ in 0..64 {
+        permitted ^= edge % 2 == 1;
         let node = (edge / 2) as usize;
         if node == 0 {
-            return parity(flags);
+            return Some(permitted);
         }
         let record = word(table, node);
-        let h = upper(record);
-        if h == 0 {
-            return Reading::Lost;
-        }
-        if (x >> (h - 1)) % 2 == 1 {
-            edge = middle(record);
+        let weight = upper(record).checked_sub(1)?;
+        edge = if (x >> weight) % 2 == 1 {
+            middle(record)
         } else {
-            edge = lower(record);
-        }
-        steps += 1;
+            lower(record)
+        };
     }
-    Reading::Lost
+    None
 }
 
-// Permitted if the number of set flags passed is even.
-fn parity(flags: u64) -> Reading {
-    if flags % 2 == 0 {
-        return Reading::Permitted;
-    }
-    Reading::Forbidden
+// Whether the reader finds setup x permitted under an edge.
+fn permits(table: &[u8], edge: u64, x: u64) -> bool {
+    read(table, edge, x) == Some(true)
+}
+
+// How many of the first setups the reader finds permitted under an edge.
+fn tally(table: &[u8], edge: u64, setups: u64) -> u64 {
+    (0..setups).filter(|&x| permits(table, edge, x)).count() as u64
 }
 
 // 2^h, or 0 where that is above 4,096: such a table is not tried.
 fn setups_below(h: u64) -> u64
     ensures { result ≤ 4096 }
 {
-    let setups: u64 = 1 << (h % 64);
-    if 4096 < setups {
-        return 0;
-    }
-    setups
+    let setups = 1 << (h % 64);
+    if 4096 < setups { 0 } else { setups }
 }
 
-// 1 if the reader finds setup x permitted under an edge, else 0.
-fn found(table: &[u8], edge: u64, x: u64) -> u64
-    ensures { result ≤ 1 }
-{
-    let reading = read(table, edge, x);
-    match reading {
-        Reading::Permitted => 1,
-        Reading::Forbidden => 0,
-        Reading::Lost => 0,
-    }
-}
-
-// How many of the first setups the reader finds permitted under an edge.
-fn tally(table: &[u8], edge: u64, setups: u64) -> u64 {
-    let mut permitted = 0;
-    let mut x = 0;
-    while x < setups {
-        permitted += found(table, edge, x);
-        x += 1;
-    }
-    permitted
-}
-
-// 0 if the two answers to a setup agree, else 1.
-fn differ(reading: Reading, tested: Tested) -> u64
-    ensures { result ≤ 1 }
-{
-    let Tested::Permitted(permitted) = tested else {
-        return 1;
-    };
-    match reading {
-        Reading::Permitted => if permitted { 0 } else { 1 },
-        Reading::Forbidden => if permitted { 1 } else { 0 },
-        Reading::Lost => 1,
-    }
-}
-
-// 0 if the library's test of setup x agrees with the reader, else 1.
-fn setup_differs(table: &[u8], root: u64, x: u64) -> u64
-    ensures { result ≤ 1 }
-{
-    let mut sheet = [0u8; 128];
-    let tested = checking::test(table, Setup(x), &mut sheet);
-    differ(read(table, root, x), tested)
-}
-
-// In how many setups the library's test differs from the reader.
-fn setups_differ(table: &[u8], root: u64, setups: u64) -> u64
-    ensures { result ≤ setups }
-{
-    let mut differences = 0;
-    let mut x = 0;
-    while x < setups {
-        differences += setup_differs(table, root, x);
-        x += 1;
-    }
-    differences
-}
-
-// 2^63, above every rank and setup.
-const REFUSED: u64 = 0x8000000000000000;
-
-// The library's rank of setup x, or 2^63 and the refusal.
-fn ranked(table: &[u8], x: u64) -> u64 {
-    let mut sheet = [0u8; 128];
-    let answer = ranking::rank(table, Setup(x), &mut sheet);
-    match answer {
-        Ranked::At(r) => r.0,
-        Ranked::Refused(r) => REFUSED + rules::number_of(r),
-    }
-}
-
-// The library's setup of rank r, or 2^63 and the refusal.
-fn unranked(table: &[u8], r: u64) -> u64 {
-    let mut sheet = [0u8; 128];
-    let answer = ranking::unrank(table, Rank(r), &mut sheet);
-    match answer {
-        Unranked::To(x) => x.0,
-        Unranked::Refused(r) => REFUSED + rules::number_of(r),
-    }
-}
-
-// 0 if the library ranks setup x, which comes after `before` permitted ones, as the reader does, and comes back to it; else 1.
-fn rank_differs(table: &[u8], root: u64, x: u64, before: u64) -> u64
-    ensures { result ≤ 1 }
-{
-    let rank = ranked(table, x);
-    if found(table, root, x) == 0 {
-        return if rank == REFUSED + 13 { 0 } else { 1 };
-    }
-    if rank != before {
-        return 1;
-    }
-    if unranked(table, rank) == x { 0 } else { 1 }
-}
-
-// In how many setups the library's ranks differ from the reader's numbering.
-fn ranks_differ(table: &[u8], root: u64, setups: u64) -> u64
-    ensures { result ≤ setups }
-{
-    let mut differences = 0;
-    let mut before = 0;
-    let mut x = 0;
-    while x < setups {
-        differences += rank_differs(table, root, x, before);
-        before += found(table, root, x);
-        x += 1;
-    }
-    differences
-}
-
-// 0 if place k agrees with the reader's count under a plain edge to node k, else 1.
-fn place_differs(table: &[u8], sheet: &[u8], k: usize) -> u64
-    ensures { result ≤ 1 }
-{
-    let mut h = 0;
-    if 0 < k {
-        h = upper(word(table, k));
-    }
+// Whether place k differs from the reader's count under a plain edge to node k.
+fn place_differs(table: &[u8], sheet: &[u8], k: usize) -> bool {
+    let h = if 0 < k { upper(word(table, k)) } else { 0 };
     let plain = (k as u64) << 1;
-    if tally(table, plain, setups_below(h)) == word(sheet, k) {
-        return 0;
-    }
-    1
+    tally(table, plain, setups_below(h)) != word(sheet, k)
 }
 
-// In how many of the first places the sheet differs from the reader's counts.
-fn places_differ(table: &[u8], sheet: &[u8], places: usize) -> u64
-    ensures { result ≤ places }
-{
-    let mut differences = 0;
-    let mut k = 0;
-    while k < places {
-        differences += place_differs(table, sheet, k);
-        k += 1;
-    }
-    differences
+// A table as the reader takes it: its root edge, and how many setups are tried.
+#[derive(Clone, Copy)]
+struct Sample<'a> {
+    table: &'a [u8],
+    root: u64,
+    setups: u64,
+    ghost few: { setups ≤ 4096 },
 }
 
-// 0 if the library's total agrees with the reader's, else 1.
-fn total_differs(counted: Counted, permitted: u64) -> u64
-    ensures { result ≤ 1 }
-{
-    let Counted::Total(c) = counted else {
-        return 1;
-    };
-    if c == permitted {
-        return 0;
+impl<'a> Sample<'a> {
+    fn of(table: &'a [u8]) -> Self {
+        let header = word(table, 0);
+        Sample {
+            table,
+            root: lower(header),
+            setups: setups_below(upper(header)),
+        }
     }
-    1
+
+    // Whether the library's test of setup x differs from the reader.
+    fn test_differs(&self, x: u64) -> bool {
+        let mut sheet = [0; 128];
+        match checking::test(self.table, Setup(x), &mut sheet) {
+            Ok(permitted) => read(self.table, self.root, x) != Some(permitted),
+            Err(_) => true,
+        }
+    }
+
+    // In how many setups it does.
+    fn tests_differ(&self) -> u64
+        ensures { result ≤ self.now.setups }
+    {
+        (0..self.setups).filter(|&x| self.test_differs(x)).count() as u64
+    }
+
+    // Whether the library's setup of a rank is not x.
+    fn unrank_differs(&self, rank: Rank, x: u64) -> bool {
+        let mut sheet = [0; 128];
+        match ranking::unrank(self.table, rank, &mut sheet) {
+            Ok(setup) => setup != Setup(x),
+            Err(_) => true,
+        }
+    }
+
+    // Whether the library ranks setup x, which comes after `before` permitted ones, otherwise than the reader, or does not come back to it.
+    fn rank_differs(&self, x: u64, before: u64) -> bool {
+        let mut sheet = [0; 128];
+        let permitted = permits(self.table, self.root, x);
+        match ranking::rank(self.table, Setup(x), &mut sheet) {
+            Ok(rank) => { !permitted || rank != Rank(before) || self.unrank_differs(rank, x) }
+            Err(refusal) => permitted || refusal != Refusal::Unpermitted,
+        }
+    }
+
+    // In how many setups the library's ranks differ from the reader's numbering.
+    fn ranks_differ(&self) -> u64
+        ensures { result ≤ self.now.setups }
+    {
+        let mut differences = 0;
+        let mut before = 0;
+        for x in 0..self.setups {
+            differences += u64::from(self.rank_differs(x, before));
+            before += u64::from(permits(self.table, self.root, x));
+        }
+        differences
+    }
+
+    // In how many of its places a sheet differs from the reader's counts.
+    fn places_differ(&self, sheet: &[u8]) -> usize
+        ensures { result ≤ length self.now.table.now / 8 }
+    {
+        (0..self.table.len() / 8)
+            .filter(|&k| place_differs(self.table, sheet, k))
+            .count()
+    }
 }
 
 // A table's line: what the reader permits, and in how many points the library differs.
-fn compare<P: Print>(rt: &P, name: &[u8], table: &[u8]) -> io::Result<()> {
-    let root = lower(word(table, 0));
-    let setups = setups_below(upper(word(table, 0)));
+fn compare(rt: &impl Print, name: &str, table: &[u8]) -> io::Result<()> {
+    let sample = Sample::of(table);
+    let setups = sample.setups;
     let places = table.len() / 8;
-    let permitted = tally(table, root, setups);
-    let mut sheet = [0u8; 128];
+    let permitted = tally(table, sample.root, setups);
+    let mut sheet = [0; 128];
     let counted = checking::count(table, &mut sheet);
-    let differences = total_differs(counted, permitted)
-        + setups_differ(table, root, setups)
-        + ranks_differ(table, root, setups)
-        + places_differ(table, &sheet, places);
-    say(rt, name)?;
-    say_number(rt, b": ", permitted)?;
-    say_number(rt, b" permitted, ", setups)?;
-    say_number(rt, b" setups, their ranks and ", places as u64)?;
-    say_number(rt, b" places compared, ", differences)?;
-    say(rt, b" differences\n")?;
-    Ok(())
-}
-
-// Byte i of a row of words, most significant first.
-fn byte_of(words: &[u64], i: usize) -> u8 {
-    let k = i / 8;
-    if words.len() <= k {
-        return 0;
-    }
-    let below = 7 - i % 8;
-    ((words[k] >> (8 * below)) % 256) as u8
-}
-
-// A row of words as bytes.
-fn bytes_of(words: &[u64]) -> [u8; 128] {
-    let mut bytes = [0u8; 128];
-    for i in 0..128 {
-        bytes[i] = byte_of(words, i);
-    }
-    bytes
-}
-
-// The line of the table in the first `length` bytes.
-fn compare_front<P: Print>(rt: &P, name: &[u8], bytes: &[u8], length: usize) -> io::Result<()> {
-    if length <= bytes.len() {
-        compare(rt, name, &bytes[0..length])?;
-    }
-    Ok(())
-}
-
-fn compare_words<P: Print>(rt: &P, name: &[u8], words: &[u64]) -> io::Result<()> {
-    let bytes = bytes_of(words);
-    if words.len() <= 16 {
-        compare_front(rt, name, &bytes, 8 * words.len())?;
-    }
-    Ok(())
+    let differences = u64::from(counted != Ok(permitted))
+        + sample.tests_differ()
+        + sample.ranks_differ()
+        + sample.places_differ(&sheet) as u64;
+    println!(rt;
+        "{name}: {permitted} permitted, {setups} setups, their ranks and {places} places compared, {differences} differences"
+    )
 }
 
 fn main(rt: HostRuntime) -> io::Result<()> {
-    compare_words(&rt, b"A", &A)?;
-    compare_words(
+    compare(&rt, "A", &bytes_of::<32>(&A))?;
+    compare(
         &rt,
-        b"A complemented",
-        &[0x0C00000060000007, A[1], A[2], A[3]],
+        "A complemented",
+        &bytes_of::<32>(&[0x0C00000060000007, A[1], A[2], A[3]]),
     )?;
-    compare_words(&rt, b"A, part 0 of 2", &FIRST_HALF)?;
-    compare_words(&rt, b"A, part 1 of 2", &SECOND_HALF)?;
-    compare_words(&rt, b"n = 10, all", &[0x2800000000000000])?;
-    compare_words(&rt, b"n = 3, none", &[0x0C00000000000001])?;
-    compare_words(&rt, b"n = 0, all", &[0x0000000000000000])?;
-    compare_words(&rt, b"n = 0, none", &[0x0000000000000001])?;
-    compare_words(&rt, b"long gaps", &GAPS)?;
-    compare_words(&rt, b"parity", &PARITY)?;
-    compare_words(&rt, b"random, n = 4", &RANDOM_4)?;
-    compare_words(&rt, b"random, n = 5", &RANDOM_5)?;
-    compare_words(&rt, b"random, n = 6", &RANDOM_6)?;
+    compare(&rt, "A, part 0 of 2", &bytes_of::<32>(&FIRST_HALF))?;
+    compare(&rt, "A, part 1 of 2", &bytes_of::<40>(&SECOND_HALF))?;
+    compare(&rt, "n = 10, all", &bytes_of::<8>(&[0x2800000000000000]))?;
+    compare(&rt, "n = 3, none", &bytes_of::<8>(&[0x0C00000000000001]))?;
+    compare(&rt, "n = 0, all", &bytes_of::<8>(&[0x0000000000000000]))?;
+    compare(&rt, "n = 0, none", &bytes_of::<8>(&[0x0000000000000001]))?;
+    compare(&rt, "long gaps", &bytes_of::<32>(&GAPS))?;
+    compare(&rt, "parity", &bytes_of::<72>(&PARITY))?;
+    compare(&rt, "random, n = 4", &bytes_of::<64>(&RANDOM_4))?;
+    compare(&rt, "random, n = 5", &bytes_of::<104>(&RANDOM_5))?;
+    compare(&rt, "random, n = 6", &bytes_of::<104>(&RANDOM_6))?;
     Ok(())
 }

@@ -1,4 +1,5 @@
 // Words that carry their nodes: by these few nodes are sorted, and numbered with no search.
+// (`sheet` and `p` stay two parameters: `keys` says why.)
 #![tactic(auto)]
 
 ghost use Rattle.std.specs.Prelude.{◌≡◌, true, ◌*◌, ◌≤◌, ◌<◌, length};
@@ -46,8 +47,7 @@ pub fn number_carried(sheet: &mut [u8], p: usize, c: usize, end: usize, h: u64) 
 {
     let mut r = c;
     let mut last = 0;
-    let mut k = c;
-    while k < end {
+    for k in c..end {
         let word = words::word_at(sheet, k);
         let key = word / 131072;
         if last < key {
@@ -57,7 +57,6 @@ pub fn number_carried(sheet: &mut [u8], p: usize, c: usize, end: usize, h: u64) 
         words::put_word(sheet, r - 1, record_of(h, key));
         let place = p + (word % 65536) as usize;
         words::put_word(sheet, place, 2 * r as u64 + word / 65536 % 2);
-        k += 1;
     }
     r
 }

@@ -14,8 +14,7 @@ use Rattle.diagram.specs.Reading.{IsHeader}
 use Rattle.diagram.proofs.Refusals.{early_low, header_refuses}
 use Rattle.diagram.proofs.Accept.{Headed, headed}
 use Rattle.rules.specs.declared.Refusal.{Refusal}
-use Rattle.rules.specs.declared.Verdict.{Verdict}
-use Rattle.rules.specs.declared.Verdict.TheVariants.{Passed, Refused}
+use Rattle.std.specs.Prelude.{Result, Ok, Err}
 use Rattle.rules.specs.Refusals.{number_of, place_of, verdict_as}
 use Rattle.checking.specs.Operations.{checking_for, sheet_by, blank_for}
 
@@ -34,8 +33,8 @@ pub headed_places : (need : ℕ → ℕ) (t : List ℕ) (long : ℕ) → {loose 
 headed_places need t long {loose} h N e = rw e (omega (arith, h.enough))
 
 -- all rules, where `need N` places are needed: the verdict v on the header, then u on the diagram
-module _ (need : ℕ → ℕ) (t s : List ℕ) (v : Verdict) (v-is : verdict_as v ≡ check_header t (length s / 8) need) where
-  pub header_refused : (r : Refusal) → v ≡ Refused r → (refusal (number_of r) (place_of r) ≡ checking_for need t s) × (s ≡ blank_for need t s)
+module _ (need : ℕ → ℕ) (t s : List ℕ) (v : Result (Unit {0}) Refusal) (v-is : verdict_as v ≡ check_header t (length s / 8) need) where
+  pub header_refused : (r : Refusal) → v ≡ Err r → (refusal (number_of r) (place_of r) ≡ checking_for need t s) × (s ≡ blank_for need t s)
   unfolding checking_for check and_then blank_for
   header_refused r q =
       let e : check_header t (length s / 8) need ≡ refusal (number_of r) (place_of r) = sym v-is ∙ ap verdict_as q in
@@ -43,21 +42,21 @@ module _ (need : ℕ → ℕ) (t s : List ℕ) (v : Verdict) (v-is : verdict_as 
       (sym a, sheet_kept _ _ (checking_for need t s) (number_of r) (place_of r) s a (early_low (header_refuses false t (length s / 8) need (number_of r) (place_of r) e)).0)
 
   -- what the header's rules give to those after them
-  module _ (passed : v ≡ Passed) where
+  module _ (passed : v ≡ Ok tt) where
     pub header_holds : Headed false t (length s / 8) need
     header_holds = headed false t (length s / 8) need (sym v-is ∙ ap verdict_as passed)
 
-    module _ (n N e : ℕ) (h : IsHeader (word_at t) n N e) (u : Verdict) (u-is : verdict_as u ≡ check_diagram (word_at t) n N) where
+    module _ (n N e : ℕ) (h : IsHeader (word_at t) n N e) (u : Result (Unit {0}) Refusal) (u-is : verdict_as u ≡ check_diagram (word_at t) n N) where
       checking_is : checking_for need t s ≡ and_then (verdict_as u) (λ _. value (n, N))
       unfolding checking_for check and_then
       checking_is = rw (sym v-is ∙ ap verdict_as passed, ← h.settings_is, ← h.nodes_is, ← u-is)
 
-      pub diagram_passed : u ≡ Passed → value (n, N) ≡ checking_for need t s
+      pub diagram_passed : u ≡ Ok tt → value (n, N) ≡ checking_for need t s
       unfolding and_then
       diagram_passed q = sym (checking_is ∙ rw q)
 
       -- refused: by 9, with the places zeroed, or before
-      module _ (r : Refusal) (q : u ≡ Refused r) where
+      module _ (r : Refusal) (q : u ≡ Err r) where
         pub diagram_refused : refusal (number_of r) (place_of r) ≡ checking_for need t s
         unfolding and_then
         diagram_refused = sym (checking_is ∙ rw q)

@@ -1,23 +1,25 @@
 -- The check's answers, and the sheet while an operation has it: for inner contracts only. Assumes nothing.
-use Rattle.std.specs.Prelude.{ℕ, ◌*◌, ◌≡◌, List, drop}
-use Rattle.checking.specs.declared.Checked.{Checked}
-use Rattle.checking.specs.declared.Checked.TheVariants as checked
-use Rattle.checking.specs.Answers.{checked_as}
+use Rattle.std.specs.Prelude.{ℕ, ◌*◌, ◌≡◌, List, drop, Result, Ok, Err}
+use Rattle.words.specs.Words.{word_at}
+use Rattle.diagram.specs.Answer.{Answer}
+use Rattle.diagram.specs.Reading.{IsHeader}
+use Rattle.diagram.specs.declared.Header.{Header}
+use Rattle.rules.specs.declared.Refusal.{Refusal}
+use Rattle.rules.specs.Refusals.{answer_as}
 use Rattle.checking.specs.Operations.{checking_for, blank_for}
 
--- an answer of the check that is a refusal
-abbrev pub IsRefused : Checked → Type 0
-IsRefused (checked.Table s) = ⊥
-IsRefused (checked.Refused r) = Unit {0}
+-- n and N of a header
+abbrev pub header_as : Result Header Refusal → Answer (ℕ × ℕ)
+header_as a = answer_as (λ h. (h.settings, h.nodes)) a
 
--- the check leaves the sheet to the operation as it was lent, or refuses, and hands it back blank
-abbrev pub Lends : (ℕ → ℕ) → List ℕ → List ℕ → List ℕ → Checked → Type 0
-Lends need table sheet sheet' (checked.Table s) = sheet' ≡ sheet
-Lends need table sheet sheet' (checked.Refused r) = sheet' ≡ blank_for need table sheet
+-- the check hands on the table's header, and leaves the sheet to the operation as it was lent; or it refuses, and hands it back blank
+abbrev pub Lends : (ℕ → ℕ) → List ℕ → List ℕ → List ℕ → Result Header Refusal → Type 0
+Lends need table sheet sheet' (Ok h) = IsHeader (word_at table) h.settings h.nodes h.root.value × (sheet' ≡ sheet)
+Lends need table sheet sheet' (Err r) = sheet' ≡ blank_for need table sheet
 
 -- how an operation begins that needs `need N` places: with this answer of the check, and this sheet
-pub record Begins (need : ℕ → ℕ) (table sheet sheet' : List ℕ) (answer : Checked) : Type 0 where
-  pub answers : checked_as answer ≡ checking_for need table sheet
+pub record Begins (need : ℕ → ℕ) (table sheet sheet' : List ℕ) (answer : Result Header Refusal) : Type 0 where
+  pub answers : header_as answer ≡ checking_for need table sheet
   pub lends : Lends need table sheet sheet' answer
 
 -- past its first m places a sheet is as before

@@ -1,4 +1,5 @@
 -- The laws of making two tables into one.
+pub mod Faults
 pub mod Nodes
 pub mod Outcomes
 pub mod Promised

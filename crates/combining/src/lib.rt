@@ -10,18 +10,16 @@ ghost use Rattle.combining.specs.Operations.{combine_roots, combine_tables, pair
 ghost use Rattle.combining.specs.Answers.{combined_as};
 ghost use Rattle.combining.specs.Inner.{Checks};
 
-use checking::Checked;
 use diagram::Edge;
 use naming::Operation;
-use pairing::Found;
 use rules::Refusal;
-use tables::Written;
 
-// How many bytes were written; or why none were, with the table that is refused: 1 or 2, or 0 if it names none.
-#[derive(Clone, Copy)]
-pub enum Combined {
-    Bytes(usize),
-    Refused(u64, Refusal),
+// Why nothing was written: the refusal of the first table, of the second, or of both together.
+#[derive(Clone, Copy, Debug, PartialEq, Eq)]
+pub enum Fault {
+    First(Refusal),
+    Second(Refusal),
+    Both(Refusal),
 }
 
 // Writes the table of the setups that the operation names, by two root edges: rules 20, 16 and 11. The sheet has room for p pairs.
@@ -35,17 +33,17 @@ fn combine_roots(
     root1: Edge,
     root2: Edge,
     op: Operation,
-) -> Written
+) -> Result<usize, Refusal>
     requires { HasDiagram table1.now n (root1.value / 2) × HasDiagram table2.now n (root2.value / 2) × (32 * p ≤ length sheet.old) }
     ensures { (written_as result ≡ length_of (combine_roots op (word_at table1.now) (word_at table2.now) n root1.value root2.value p (length out.old)))
         × (out.new ≡ out_after (combine_roots op (word_at table1.now) (word_at table2.now) n root1.value root2.value p (length out.old)) out.old) }
 {
     let found = pairing::explore(table1, table2, sheet, p, n, root1, root2);
-    let Found::All(count) = found else {
-        return Written::Refused(Refusal::TooManyPairs);
+    let Some(count) = found else {
+        return Err(Refusal::TooManyPairs);
     };
     naming::ready_all(table1, table2, sheet, p, count, op);
-    compiling::write_root(sheet, out, p, count, n, Edge { value: 0 })
+    compiling::write_root(sheet, out, p, count, n, Edge::ALWAYS)
 }
 
 // ... of two accepted tables: rule 19 before these. Once the pair sheet has been used all its places are zero.
@@ -55,7 +53,7 @@ fn combine_tables(
     pairs: &mut [u8],
     out: &mut [u8],
     op: Operation,
-) -> Written
+) -> Result<usize, Refusal>
     requires { Checks table1.now × Checks table2.now }
     ensures { (written_as result ≡ length_of (combine_tables op (word_at table1.now) (word_at table2.now) (length pairs.old / 32) (length out.old)))
         × (out.new ≡ out_after (combine_tables op (word_at table1.now) (word_at table2.now) (length pairs.old / 32) (length out.old)) out.old)
@@ -64,7 +62,7 @@ fn combine_tables(
     let first = diagram::header_of(table1);
     let second = diagram::header_of(table2);
     if first.settings != second.settings {
-        return Written::Refused(Refusal::UnequalSettings);
+        return Err(Refusal::UnequalSettings);
     }
     let places = pairs.len() / 8;
     let p = pairs.len() / 32;
@@ -92,21 +90,11 @@ pub fn combine(
     sheet2: &mut [u8],
     pairs: &mut [u8],
     out: &mut [u8],
-) -> Combined
+) -> Result<usize, Fault>
     ensures { Promise op table1.now sheet1.old table2.now sheet2.old pairs.old out.old
         (combined_as result) sheet1.new sheet2.new pairs.new out.new }
 {
-    let first = checking::check(table1, sheet1);
-    let Checked::Table(_) = first else {
-        return Combined::Refused(1, checking::refusal_of(first));
-    };
-    let second = checking::check(table2, sheet2);
-    let Checked::Table(_) = second else {
-        return Combined::Refused(2, checking::refusal_of(second));
-    };
-    let written = combine_tables(table1, table2, pairs, out, op);
-    match written {
-        Written::Bytes(m) => Combined::Bytes(m),
-        Written::Refused(r) => Combined::Refused(0, r),
-    }
+    checking::check(table1, sheet1).map_err(Fault::First)?;
+    checking::check(table2, sheet2).map_err(Fault::Second)?;
+    combine_tables(table1, table2, pairs, out, op).map_err(Fault::Both)
 }

@@ -1,4 +1,5 @@
 // A table made of nodes that lie in a sheet in any order: numbered, and written.
+// (`sheet` and `p` stay two parameters: `keys` says why.)
 #![tactic(auto)]
 
 ghost use Rattle.std.specs.Prelude.{◌≡◌, ◌+◌, ◌*◌, ◌/◌, ◌≤◌, ◌<◌, length};
@@ -8,9 +9,7 @@ ghost use Rattle.tables.specs.Answers.{written_as};
 ghost use Rattle.compiling.specs.Inner.{HoldsDiagram, WritesRoot, HoldsTable};
 
 use diagram::{Edge, Header};
-use reducing::Reduced;
 use rules::Refusal;
-use tables::Written;
 
 // Copies `count` records, from place 0 of the sheet on, behind the header.
 fn copy_records(sheet: &[u8], out: &mut [u8], count: usize)
@@ -18,11 +17,7 @@ fn copy_records(sheet: &[u8], out: &mut [u8], count: usize)
     ensures { HoldsTable (word_at sheet.now) count (word_at out.old 0) out.new
         × (length out.new ≡ length out.old) }
 {
-    let mut k = 0;
-    while k < count {
-        words::put_word(out, k + 1, words::word_at(sheet, k));
-        k += 1;
-    }
+    out[8..8 * count + 8].copy_from_slice(&sheet[..8 * count]);
 }
 
 // Writes the table of `count` records and a root edge.
@@ -48,19 +43,18 @@ pub fn write_root(
     count: usize,
     n: u64,
     root: Edge,
-) -> Written
+) -> Result<usize, Refusal>
     requires { HoldsDiagram sheet.old p n count (root.value / 2) }
     ensures { WritesRoot (word_at sheet.old) p n count root.value out.old (written_as result) out.new }
 {
-    let reduced = reducing::reduce(sheet, p, count, n);
-    let Reduced::Records(records) = reduced else {
-        return Written::Refused(Refusal::TooManyNodes);
+    let Some(records) = reducing::reduce(sheet, p, count, n) else {
+        return Err(Refusal::TooManyNodes);
     };
     let end = 8 * (records + 1);
     if out.len() < end {
-        return Written::Refused(Refusal::Out);
+        return Err(Refusal::Out);
     }
     let top = reducing::through_of(sheet, p, root.value);
     write_table(sheet, &mut out[..end], n, records, top);
-    Written::Bytes(end)
+    Ok(end)
 }

@@ -1,4 +1,5 @@
 // The setup book for a C program: numbers and byte memory in; out comes one packed number, or a number and three words. include/setupbook.h declares these functions.
+// (What packs an answer stands in each function: the values differ, and `map_or_else` would put closures on the way of unranking, which `.ci/undivided` cannot follow. Join, share and without are three functions over one: the C interface.)
 #![tactic(auto)]
 
 ghost use Rattle.std.specs.Prelude.{◌≡◌, ℕ, length};
@@ -19,10 +20,7 @@ ghost use Rattle.telling.specs.Told.{single, double, found_words, returned, told
 ghost use Rattle.console.specs.Combines.{Combines};
 
 use diagram::{Rank, Setup};
-use lists::Listed;
 use naming::Operation;
-use ranking::{Ranked, Unranked};
-use tables::Written;
 
 // The rank of a setup.
 #[unsafe(no_mangle)]
@@ -32,8 +30,8 @@ pub extern "C" fn setupbook_rank(table: &[u8], setup: u64, sheet: &mut [u8]) -> 
 {
     let ranked = ranking::rank(table, Setup(setup), sheet);
     match ranked {
-        Ranked::At(r) => r.0,
-        Ranked::Refused(r) => rules::pack_refusal(r),
+        Ok(r) => r.0,
+        Err(r) => rules::pack_refusal(r),
     }
 }
 
@@ -45,8 +43,8 @@ pub extern "C" fn setupbook_unrank(table: &[u8], rank: u64, sheet: &mut [u8]) ->
 {
     let unranked = ranking::unrank(table, Rank(rank), sheet);
     match unranked {
-        Unranked::To(x) => x.0,
-        Unranked::Refused(r) => rules::pack_refusal(r),
+        Ok(x) => x.0,
+        Err(r) => rules::pack_refusal(r),
     }
 }
 
@@ -63,7 +61,7 @@ pub extern "C" fn setupbook_count_on(
         × (sheet.new ≡ blank_for needed table.now sheet.old) }
 {
     let counted = weighing::count_on(table, m, sheet);
-    telling::tell_counted(counted, answer)
+    telling::tell(counted, answer)
 }
 
 // The settings that rule a setup out: how many, and the setup given.
@@ -79,7 +77,7 @@ pub extern "C" fn setupbook_ruled_out(
         × (sheet.new ≡ blank table.now sheet.old) }
 {
     let found = exclusion::ruled_out(table, Setup(setup), sheet);
-    telling::tell_found(found, answer)
+    telling::tell(found, answer)
 }
 
 // The permitted setup closest to another, and in how many settings it differs.
@@ -95,7 +93,7 @@ pub extern "C" fn setupbook_closest(
         × (sheet.new ≡ blank_for correcting.needed table.now sheet.old) }
 {
     let corrected = correcting::closest(table, Setup(setup), sheet);
-    telling::tell_corrected(corrected, answer)
+    telling::tell(corrected, answer)
 }
 
 // The setups of a list of ranks: how many.
@@ -113,10 +111,7 @@ pub extern "C" fn setupbook_unrank_list(
         × (setups.new ≡ setups_after table.now ranks.now sheet.old setups.old) }
 {
     let listed = lists::unrank_list(table, ranks, sheet, setups);
-    match listed {
-        Listed::Items(m) => telling::tell(m as u64, 0, 0, answer),
-        Listed::Refused(r) => telling::tell_refusal(r, 0, answer),
-    }
+    telling::tell(listed, answer)
 }
 
 // A part of a division, written: how many bytes.
@@ -134,8 +129,8 @@ pub extern "C" fn setupbook_part_write(
 {
     let written = parts::part_write(table, k, j, sheet, out);
     match written {
-        Written::Bytes(m) => m as u64,
-        Written::Refused(r) => rules::pack_refusal(r),
+        Ok(m) => m as u64,
+        Err(r) => rules::pack_refusal(r),
     }
 }
 
@@ -153,7 +148,7 @@ pub extern "C" fn setupbook_make_proper(
         (length_of (making_proper table.now sheet.old (length out.old))) sheet.new out.new }
 {
     let written = tightening::make_proper(table, sheet, out);
-    telling::tell_written(written, answer)
+    telling::tell(written, answer)
 }
 
 // Two tables made into one by an operation: how many bytes.

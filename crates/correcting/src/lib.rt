@@ -11,21 +11,14 @@ ghost use Rattle.correcting.specs.Answers.{corrected_as};
 ghost use Rattle.correcting.specs.Operations.{needed, closest_setup, correcting};
 ghost use Rattle.correcting.specs.Inner.{Seekable};
 
-use checking::{Checked, Tested};
 use diagram::{Edge, Setup};
 use rules::Refusal;
 
 // A setup, and in how many settings it differs.
-#[derive(Clone, Copy)]
+#[derive(Clone, Copy, Debug, PartialEq, Eq)]
 pub struct Correction {
     pub setup: Setup,
     pub distance: u64,
-}
-
-#[derive(Clone, Copy)]
-pub enum Corrected {
-    To(Correction),
-    Refused(Refusal),
 }
 
 // The setup nearest to x, which edge e does not permit, of those that it does. In a table of many records those one setting off are tried first: that takes at most 2,016 steps.
@@ -34,8 +27,7 @@ fn nearest_under(table: &[u8], sheet: &mut [u8], n: u64, nodes: usize, e: Edge, 
     ensures { Nearest (under (word_at table.now) e.value) n x.0 result.0 }
 {
     if 512 <= nodes {
-        let y = neighbours::beside(table, e, x);
-        if y.0 != x.0 {
+        if let Some(y) = neighbours::beside(table, e, x) {
             return y;
         }
     }
@@ -51,42 +43,31 @@ fn closest_setup(
     nodes: usize,
     e: Edge,
     x: Setup,
-) -> Corrected
+) -> Result<Correction, Refusal>
     requires { Countable table.now sheet.old n nodes e.value × (8 * needed nodes ≤ length sheet.old) }
     ensures { corrected_as result ≡ closest_setup x.0 n (under (word_at table.now) e.value) }
 {
-    let tested = checking::test_setup(table, n, e, x);
-    match tested {
-        Tested::Permitted(yes) => {
-            if yes {
-                return Corrected::To(Correction {
-                    setup: x,
-                    distance: 0,
-                });
-            }
-            if e.value == 1 {
-                return Corrected::Refused(Refusal::NonePermitted);
-            }
-            let y = nearest_under(table, sheet, n, nodes, e, x);
-            Corrected::To(Correction {
-                setup: y,
-                distance: distances::between(x, y),
-            })
-        }
-        Tested::Refused(r) => Corrected::Refused(r),
+    let permitted = checking::test_setup(table, n, e, x)?;
+    if permitted {
+        return Ok(Correction {
+            setup: x,
+            distance: 0,
+        });
     }
+    if e == Edge::NEVER {
+        return Err(Refusal::NonePermitted);
+    }
+    let setup = nearest_under(table, sheet, n, nodes, e, x);
+    let distance = distances::between(x, setup);
+    Ok(Correction { setup, distance })
 }
 
 // Finds the permitted setup that is closest to x, the smallest of several.
-pub fn closest(table: &[u8], x: Setup, sheet: &mut [u8]) -> Corrected
+pub fn closest(table: &[u8], x: Setup, sheet: &mut [u8]) -> Result<Correction, Refusal>
     ensures { (corrected_as result ≡ correcting table.now x.0 sheet.old)
         × (sheet.new ≡ blank_for needed table.now sheet.old) }
 {
-    let checked = checking::begin_with(table, sheet, 2, 2);
-    let Checked::Table(_) = checked else {
-        return Corrected::Refused(checking::refusal_of(checked));
-    };
-    let header = diagram::header_of(table);
+    let header = checking::begin_with(table, sheet, 2, 2)?;
     let places = 2 * (header.nodes + 1);
     let end = 8 * places;
     let found = closest_setup(

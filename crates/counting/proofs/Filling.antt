@@ -95,14 +95,14 @@ root_opens t s s' n N e C q =
     let F = filled_by t n N C.holds s s' N (le_refl N) C.room q in
     (F, record { filled = filled_below t s' N F (e / 2) C.inside; low = height_le_settings (word_at t) n N C.holds.ordered (e / 2) C.inside; few = C.holds.few_settings })
 
--- settling: the share loaded from place k + 1, shifted, is the count
+-- settling: the share loaded from place k, shifted, is the count
 pub settle_next : (t s₀ entry : List ℕ) (N : ℕ) → Filled t entry N → Begun (place (word_at t)) s₀ entry N
-    → (s s' : List ℕ) (k h v : ℕ) → k < N → s ≡ words_over (place (word_at t)) (k + 1) s₀ → h ≡ height (word_at t) (k + 1) → v < 18446744073709551616 → swap v ≡ word_at s (k + 1)
-    → s' ≡ put_word s (k + 1) (v / 2 ^ (63 - h)) → s' ≡ words_over (place (word_at t)) (k + 1 + 1) s₀
-settle_next t s₀ entry N F B s s' k h v l e h-is v-fits v-is q =
+    → (s s' : List ℕ) (k h v : ℕ) → 0 < k → k ≤ N → s ≡ words_over (place (word_at t)) k s₀ → h ≡ height (word_at t) k → v < 18446744073709551616 → swap v ≡ word_at s k
+    → s' ≡ put_word s k (v / 2 ^ (63 - h)) → s' ≡ words_over (place (word_at t)) (k + 1) s₀
+settle_next t s₀ entry N F B s s' k h v some l e h-is v-fits v-is q =
     let w = word_at t in
-    let x : swap v ≡ word_at entry (k + 1) =
-    v-is ∙ ap (λ (x : List ℕ). word_at x (k + 1)) (fill_last (place w) s₀ entry N B s (k + 1) e (omega arith))
-    ∙ past (place w) entry (k + 1) (k + 1) (omega arith) (omega (arith, B.room)) (λ i j. place_fits w i (within_low t i (within_below t N F.within i (omega arith)))) in
-    let y : v / 2 ^ (63 - h) ≡ place w (k + 1) = rw h-is (settled t entry N F (k + 1) v v-fits x (k + 1) refl (omega arith)) in
-    fill_next (place w) s₀ entry N B s (k + 1) e (omega arith) s' (q ∙ ap (put_word s (k + 1)) y)
+    let x : swap v ≡ word_at entry k =
+    v-is ∙ ap (λ (x : List ℕ). word_at x k) (fill_last (place w) s₀ entry N B s k e some)
+    ∙ past (place w) entry k k (omega arith) (omega (arith, B.room)) (λ i j. place_fits w i (within_low t i (within_below t N F.within i (omega arith)))) in
+    let y : v / 2 ^ (63 - h) ≡ place w k = rw h-is (settled t entry N F k v v-fits x k refl l) in
+    fill_next (place w) s₀ entry N B s k e l s' (q ∙ ap (put_word s k) y)

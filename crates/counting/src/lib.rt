@@ -15,10 +15,7 @@ fn share_of(sheet: &[u8], e: Edge) -> u64
     ensures { CountsUnder sheet.now e.value 63 result }
 {
     let s = words::load(sheet, e.node().0);
-    if e.flagged() {
-        return (1 << 63) - s;
-    }
-    s
+    if e.flagged() { (1 << 63) - s } else { s }
 }
 
 // How many of the setups of h settings edge e permits.
@@ -45,9 +42,7 @@ pub fn fill(table: &[u8], sheet: &mut [u8], n: u64, nodes: usize)
     ensures { sheet.new ≡ words_over (stored (word_at table.now)) (nodes + 1) sheet.old }
 {
     words::store(sheet, 0, 1 << 63);
-    let mut k = 0;
-    while k < nodes {
-        k += 1;
+    for k in 1..=nodes {
         enter_node(table, sheet, Node(k));
     }
 }
@@ -58,9 +53,7 @@ pub fn settle(table: &[u8], sheet: &mut [u8], nodes: usize)
     ensures { sheet.new ≡ words_over (place (word_at table.now)) (nodes + 1) sheet.old }
 {
     words::put_word(sheet, 0, 1);
-    let mut k = 0;
-    while k < nodes {
-        k += 1;
+    for k in 1..=nodes {
         let h = diagram::height_at(table, Node(k));
         let s = words::load(sheet, k);
         words::put_word(sheet, k, s >> (63 - h));

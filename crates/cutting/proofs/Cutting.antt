@@ -14,7 +14,7 @@ use Rattle.diagram.specs.Ordered.{Ordered}
 use Rattle.diagram.specs.Reading.{cofactor}
 use Rattle.diagram.proofs.Agree.{agree_height}
 use Rattle.cutting.specs.Cut.{extended, follow, cut_edge, cut_record, IsStep, Cut}
-use Rattle.cutting.proofs.Extended.{set_here, set_other}
+use Rattle.cutting.proofs.Behind.{set_here, set_other}
 use Rattle.cutting.proofs.Follow.{follow_next, path_inside}
 use Rattle.cutting.proofs.Steps.{node_word, record_parts, follow_none}
 
@@ -33,7 +33,7 @@ cutting_start w n B bound r lower = record {
 }
 
 -- after the last one
-pub cutting_end : (w : Words) (n B bound r : ℕ) (lower : Bool) (h p : ℕ) (w' : Words) → h ≤ 0 → Cutting w n B bound r lower h p w' → Cut w n B bound r lower w'
+pub cutting_end : (w : Words) (n B bound r : ℕ) (lower : Bool) (h p : ℕ) (w' : Words) → h < 1 → Cutting w n B bound r lower h p w' → Cut w n B bound r lower w'
 cutting_end w n B bound r lower h p w' z C = record { as_before = C.as_before; records = λ g a b. C.records g (omega arith) b }
 
 -- the path's edge leads to a node from before
@@ -83,12 +83,12 @@ module _ (w : Words) (n B bound r : ℕ) (lower : Bool) (h p : ℕ) (w' : Words)
     path = step_path;
   }
 
--- ... whose node is stored behind the table
-pub cut_down : (t : Words) (n N skip bound r : ℕ) (lower : Bool) (h p : ℕ) (l₀ l : List ℕ) → Ordered (extended t N l₀) n (N + skip) → r / 2 ≤ N + skip
-    → Cutting (extended t N l₀) n (N + skip) bound r lower h p (extended t N l) → 0 < h → h ≤ n → (word next : ℕ) → IsStep (extended t N l) (N + skip) bound lower h p word next
-    → skip + h < length l → Cutting (extended t N l₀) n (N + skip) bound r lower (h - 1) next (extended t N (set l (skip + h) word))
-cut_down t n N skip bound r lower h p l₀ l D inside C some low word next S room =
-    let e : N + (skip + h) ≡ N + skip + h = omega arith in
-    cutting_next (extended t N l₀) n (N + skip) bound r lower h p (extended t N l) D inside C some low word next S (extended t N (set l (skip + h) word))
+-- ... whose node is stored behind the table, of N nodes
+pub cut_down : (w t : Words) (n M N skip bound r : ℕ) (lower : Bool) (h p : ℕ) (l : List ℕ) → N ≡ M → Ordered w n (M + skip) → r / 2 ≤ M + skip
+    → Cutting w n (M + skip) bound r lower h p (extended t N l) → 0 < h → h ≤ n → (word next : ℕ) → IsStep (extended t N l) (M + skip) bound lower h p word next
+    → skip + h < length l → Cutting w n (M + skip) bound r lower (h - 1) next (extended t N (set l (skip + h) word))
+cut_down w t n M N skip bound r lower h p l N_is D inside C some low word next S room =
+    let e : N + (skip + h) ≡ M + skip + h = omega (arith, N_is) in
+    cutting_next w n (M + skip) bound r lower h p (extended t N l) D inside C some low word next S (extended t N (set l (skip + h) word))
     (rw e at (set_here t N l (skip + h) word (omega arith) room))
-    (λ k z. set_other t N l (skip + h) word (omega arith) k (λ q. z (omega arith)))
+    (λ k z. set_other t N l (skip + h) word (omega arith) k (λ q. z (omega (arith, N_is))))

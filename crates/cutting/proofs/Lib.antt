@@ -1,5 +1,5 @@
 -- The laws of cuts.
-pub mod Extended
+pub mod Behind
 pub mod Bounds
 pub mod Follow
 pub mod CutOrder

@@ -1,2 +1,3 @@
 -- A diagram cut at a bound.
 pub mod Cut
+pub mod Behind

@@ -7,38 +7,9 @@ ghost use Rattle.words.specs.Words.{word_at};
 ghost use Rattle.diagram.specs.Meaning.{bit};
 ghost use Rattle.diagram.specs.Ordered.{Ordered};
 ghost use Rattle.diagram.specs.Reading.{cofactor, record_of};
-ghost use Rattle.cutting.specs.Cut.{extended, cut_edge, Cut, IsStep};
+ghost use Rattle.cutting.specs.Cut.{cut_edge, Cut, IsStep};
 
 use diagram::{Cofactors, Edge, Node, Record, Setup};
-
-// Word v of the table, or of the nodes behind it.
-pub fn word_in(table: &[u8], more: &[u64; 128], nodes: usize, v: Node) -> u64
-    requires { (8 * nodes + 8 ≤ length table.now) × (v.0 < nodes + 128) }
-    ensures { result ≡ extended (word_at table.now) nodes more.now v.0 }
-{
-    if v.0 <= nodes {
-        return words::word_at(table, v.0);
-    }
-    let i = v.0 - nodes;
-    more[i]
-}
-
-// The cofactors of edge e by the setting of height h.
-fn cofactors_in(table: &[u8], more: &[u64; 128], nodes: usize, e: Edge, h: u64) -> Cofactors
-    requires { (8 * nodes + 8 ≤ length table.now) × (e.value / 2 < nodes + 128) × (0 < h) }
-    ensures { (result.high.value ≡ cofactor (extended (word_at table.now) nodes more.now) h true e.value)
-        × (result.low.value ≡ cofactor (extended (word_at table.now) nodes more.now) h false e.value) }
-{
-    let node = e.node();
-    if node.0 == 0 {
-        return Cofactors { high: e, low: e };
-    }
-    let record = Record::of(word_in(table, more, nodes, node));
-    if record.height < h {
-        return Cofactors { high: e, low: e };
-    }
-    record.cofactors(e)
-}
 
 // Whether setup x has the setting of height h.
 fn has_setting(x: Setup, h: u64) -> bool
@@ -54,101 +25,116 @@ fn inner_edge(base: usize, h: u64, next: Edge) -> Edge
     ensures { result.value ≡ cond (eqb (h - 1) 0) next.value (2 * (base + (h - 1))) }
 {
     if h == 1 {
-        return next;
+        next
+    } else {
+        Edge::new(Node(base + h as usize - 1), false)
     }
-    Edge::new(Node(base + h as usize - 1), false)
 }
 
 // The edge that leaves the bound: nothing is left there, or all of e.
 fn outer_edge(on: bool, lower: bool, e: Edge) -> Edge
     ensures { result.value ≡ cond (beq on lower) 1 e.value }
 {
-    if on == lower {
-        return Edge::NEVER;
-    }
-    e
+    if on == lower { Edge::NEVER } else { e }
 }
 
 // The word of a cut's node, whose then-edge runs along the bound if the bound has the setting.
-fn cut_word(h: u64, on: bool, inner: Edge, outer: Edge) -> u64
-    requires { (h ≤ 63) × (inner.value < 2 ^ 29) × (outer.value < 2 ^ 29) }
-    ensures { result ≡ cond on (record_of h inner.value outer.value) (record_of h outer.value inner.value) }
+fn cut_word(height: u64, on: bool, inner: Edge, outer: Edge) -> u64
+    requires { (height ≤ 63) × (inner.value < 2 ^ 29) × (outer.value < 2 ^ 29) }
+    ensures { result ≡ cond on (record_of height inner.value outer.value) (record_of height outer.value inner.value) }
 {
-    if on {
-        return Record {
-            height: h,
-            high: inner,
-            low: outer,
-        }
-        .word();
-    }
-    Record {
-        height: h,
-        high: outer,
-        low: inner,
-    }
-    .word()
+    let (high, low) = if on { (inner, outer) } else { (outer, inner) };
+    Record { height, high, low }.word()
 }
 
 // The word of a cut's node, and the edge by which the bound goes on.
-#[derive(Clone, Copy)]
+#[derive(Clone, Copy, Debug, PartialEq, Eq)]
 struct Step {
     word: u64,
     next: Edge,
 }
 
-// The cut's node of height h below edge e, where the bound leads to e.
-fn cut_step(
-    table: &[u8],
-    more: &[u64; 128],
-    nodes: usize,
-    base: usize,
-    e: Edge,
-    h: u64,
-    bound: Setup,
-    lower: bool,
-) -> Step
-    requires { (8 * nodes + 8 ≤ length table.now) × (nodes ≤ 65535) × (e.value / 2 < nodes + 128) × (base < 2 ^ 27) × (0 < h) × (h ≤ 63) }
-    ensures { IsStep (extended (word_at table.now) nodes more.now) base bound.0 lower h e.value result.word result.next.value }
-{
-    let on = has_setting(bound, h);
-    let sides = cofactors_in(table, more, nodes, e, h);
-    let next = sides.at(on);
-    let outer = outer_edge(on, lower, sides.at(!on));
-    let word = cut_word(h, on, inner_edge(base, h, next), outer);
-    Step { word, next }
+// A table of n settings, and behind its nodes those of two cuts, n each: `more` has the word of node nodes + i at place i.
+#[derive(Debug, Drop)]
+pub struct Extended<'a> {
+    pub table: &'a [u8],
+    pub more: [u64; 128],
+    pub n: usize,
+    pub nodes: usize,
+    pub ghost table_long: { 8 * nodes + 8 ≤ length table.now },
+    pub ghost few_settings: { n ≤ 63 },
+    pub ghost few_nodes: { nodes ≤ 65535 },
 }
 
-// Adds the nodes of a cut at a bound behind the nodes there are; the edge to what is left. `lower` keeps the setups not below the bound, or else those not above it.
-pub fn add_cut(
-    table: &[u8],
-    more: &mut [u64; 128],
-    n: usize,
-    nodes: usize,
-    skip: usize,
-    root: Edge,
-    bound: Setup,
-    lower: bool,
-) -> Edge
-    requires { (8 * nodes + 8 ≤ length table.now) × Ordered (extended (word_at table.now) nodes more.old) n (nodes + skip)
-        × (root.value / 2 ≤ nodes + skip) × (n ≤ 63) × (skip ≤ 63) × (nodes ≤ 65535) × (length more.old ≡ 128) }
-    ensures { Cut (extended (word_at table.now) nodes more.old) n (nodes + skip) bound.0 root.value lower
-        (extended (word_at table.now) nodes more.new)
-        × (result.value ≡ cut_edge (extended (word_at table.now) nodes more.old) (nodes + skip) n bound.0 root.value n)
-        × (length more.new ≡ 128) }
-{
-    let base = nodes + skip;
-    let mut e = root;
-    let mut h = n;
-    while 0 < h {
-        let step = cut_step(table, more, nodes, base, e, h as u64, bound, lower);
-        let i = skip + h;
-        more[i] = step.word;
-        e = step.next;
-        h -= 1;
+impl Extended<'_> {
+    ghost use Rattle.cutting.specs.Behind.{words_of, last_of, SameTable};
+
+    // The last node of the second cut.
+    pub fn last(&self) -> usize
+        ensures { result ≡ last_of self.now }
+    {
+        self.nodes + self.n + self.n
     }
-    if n == 0 {
-        return root;
+
+    // Word v of the table, or of the nodes behind it.
+    pub fn word_in(&self, v: Node) -> u64
+        requires { v.0 < self.now.nodes + 128 }
+        ensures { result ≡ words_of self.now v.0 }
+    {
+        if v.0 <= self.nodes {
+            words::word_at(self.table, v.0)
+        } else {
+            self.more[v.0 - self.nodes]
+        }
     }
-    Edge::new(Node(base + n), false)
+
+    // The cofactors of edge e by the setting of height h.
+    fn cofactors_in(&self, e: Edge, h: u64) -> Cofactors
+        requires { (e.value / 2 < self.now.nodes + 128) × (0 < h) }
+        ensures { (result.high.value ≡ cofactor (words_of self.now) h true e.value) × (result.low.value ≡ cofactor (words_of self.now) h false e.value) }
+    {
+        let node = e.node();
+        if node.0 == 0 {
+            return Cofactors { high: e, low: e };
+        }
+        let record = Record::from(self.word_in(node));
+        if record.height < h {
+            return Cofactors { high: e, low: e };
+        }
+        record.cofactors(e)
+    }
+
+    // The cut's node of height h below edge e, where the bound leads to e.
+    fn cut_step(&self, base: usize, e: Edge, h: u64, bound: Setup, lower: bool) -> Step
+        requires { (e.value / 2 < self.now.nodes + 128) × (base < 2 ^ 27) × (0 < h) × (h ≤ 63) }
+        ensures { IsStep (words_of self.now) base bound.0 lower h e.value result.word result.next.value }
+    {
+        let on = has_setting(bound, h);
+        let sides = self.cofactors_in(e, h);
+        let next = sides.at(on);
+        let outer = outer_edge(on, lower, sides.at(!on));
+        let word = cut_word(h, on, inner_edge(base, h, next), outer);
+        Step { word, next }
+    }
+
+    // Adds the nodes of a cut at a bound, `skip` nodes behind the table's; the edge to what is left. `lower` keeps the setups not below the bound, or else those not above it.
+    pub fn add_cut(&mut self, skip: usize, root: Edge, bound: Setup, lower: bool) -> Edge
+        requires { Ordered (words_of self.old) self.old.n (self.old.nodes + skip) × (root.value / 2 ≤ self.old.nodes + skip) × (skip ≤ 63) }
+        ensures { Cut (words_of self.old) self.old.n (self.old.nodes + skip) bound.0 root.value lower (words_of self.new)
+            × (result.value ≡ cut_edge (words_of self.old) (self.old.nodes + skip) self.old.n bound.0 root.value self.old.n)
+            × SameTable self.old self.new }
+    {
+        let base = self.nodes + skip;
+        let mut e = root;
+        for h in (1..=self.n).rev() {
+            let step = self.cut_step(base, e, h as u64, bound, lower);
+            self.more[skip + h] = step.word;
+            e = step.next;
+        }
+        if self.n == 0 {
+            root
+        } else {
+            Edge::new(Node(base + self.n), false)
+        }
+    }
 }

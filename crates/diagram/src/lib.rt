@@ -8,19 +8,19 @@ ghost use Rattle.diagram.specs.Count.{indicator};
 ghost use Rattle.diagram.specs.Reading.{HasFields, IsHeader, IsRecord, turn, record_of};
 
 // A node's number. Node 0 is the sink.
-#[derive(Clone, Copy)]
+#[derive(Clone, Copy, Debug, PartialEq, Eq)]
 pub struct Node(pub usize);
 
 // A setup: an assignment of the settings, the first one the most significant bit.
-#[derive(Clone, Copy)]
+#[derive(Clone, Copy, Debug, PartialEq, Eq)]
 pub struct Setup(pub u64);
 
 // How many permitted setups are smaller.
-#[derive(Clone, Copy)]
+#[derive(Clone, Copy, Debug, PartialEq, Eq)]
 pub struct Rank(pub u64);
 
 // An edge to a node, plain or complemented by its flag: 2 × node + flag.
-#[derive(Clone, Copy)]
+#[derive(Clone, Copy, Debug, PartialEq, Eq)]
 pub struct Edge {
     pub value: u64,
 }
@@ -70,7 +70,7 @@ impl Edge {
 }
 
 // An edge as it goes on where one setting is on (high) or off (low).
-#[derive(Clone, Copy)]
+#[derive(Clone, Copy, Debug, PartialEq, Eq)]
 pub struct Cofactors {
     pub high: Edge,
     pub low: Edge,
@@ -88,7 +88,7 @@ impl Cofactors {
 }
 
 // Word 0: n settings, N nodes, and the root edge.
-#[derive(Clone, Copy)]
+#[derive(Clone, Copy, Debug, PartialEq, Eq)]
 pub struct Header {
     pub settings: u64,
     pub nodes: usize,
@@ -106,7 +106,7 @@ impl Header {
 }
 
 // Word k: the height of node k, its then-edge (high) and its else-edge (low).
-#[derive(Clone, Copy)]
+#[derive(Clone, Copy, Debug, PartialEq, Eq)]
 pub struct Record {
     pub height: u64,
     pub high: Edge,
@@ -131,10 +131,13 @@ impl Record {
             low: self.low.turned_by(e),
         }
     }
+}
 
-    pub fn of(word: u64) -> Self
-        ensures { HasFields word result.height result.high.value result.low.value }
-    {
+// The record that is this word.
+impl From<u64> for Record {
+    ghost from_gives = { λ word r. HasFields word r.height r.high.value r.low.value };
+
+    fn from(word: u64) -> Self {
         Record {
             height: word / 288230376151711744,
             high: Edge {
@@ -152,7 +155,7 @@ pub fn header_of(table: &[u8]) -> Header
     requires { 8 ≤ length table.now }
     ensures { IsHeader (word_at table.now) result.settings result.nodes result.root.value }
 {
-    let fields = Record::of(words::word_at(table, 0));
+    let fields = Record::from(words::word_at(table, 0));
     let root = fields.low;
     Header {
         settings: fields.height,
@@ -175,7 +178,7 @@ pub fn record_at(table: &[u8], k: Node) -> Record
     requires { (0 < k.0) × (8 * k.0 + 8 ≤ length table.now) }
     ensures { IsRecord (word_at table.now) k.0 result.height result.high.value result.low.value }
 {
-    Record::of(words::word_at(table, k.0))
+    Record::from(words::word_at(table, k.0))
 }
 
 // The height of node k, from the first byte of its record. (The byte is read for the sink too: then there is no jump.)

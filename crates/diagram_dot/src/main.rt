@@ -2,171 +2,137 @@
 // nodes, from the top. Then-edges are solid, else-edges dashed, and flagged (complemented) edges end in a dot.
 #![tactic(auto)]
 
-ghost use Rattle.std.specs.Prelude.{◌+◌, ◌*◌, ◌≤◌, ◌<◌, length};
+ghost use Rattle.std.specs.Prelude.{◌≤◌, ◌<◌};
 ghost use Rattle.diagram.specs.Ordered.{HasDiagram};
 
-use checking::Checked;
-use diagram::{Edge, Node, Record};
-use programs::{say, say_number};
+use diagram::{Edge, Node};
+use std::fmt::Display;
 use std::io;
 use std::io::Print;
 
 // The beginning of every graph: its looks, where it is entered, and the sink.
-fn say_head<P: Print>(rt: &P) -> io::Result<()> {
-    say(rt, b"digraph table {\n")?;
-    say(rt, b"  bgcolor = white;\n")?;
-    say(rt, b"  nodesep = 0.3;\n")?;
-    say(rt, b"  ranksep = 0.35;\n")?;
-    say(
-        rt,
-        b"  node [shape = box, style = rounded, height = 0.3, margin = \"0.08,0.04\"];\n",
-    )?;
-    say(rt, b"  node [fontname = Helvetica, fontsize = 12];\n")?;
-    say(rt, b"  edge [arrowsize = 0.7];\n")?;
-    say(rt, b"  entry [shape = point, width = 0.08];\n")?;
-    say(rt, b"  v0 [style = solid, label = \"permitted\"];\n")?;
-    Ok(())
+const HEAD: &str = "digraph table {
+  bgcolor = white;
+  nodesep = 0.3;
+  ranksep = 0.35;
+  node [shape = box, style = rounded, height = 0.3, margin = \"0.08,0.04\"];
+  node [fontname = Helvetica, fontsize = 12];
+  edge [arrowsize = 0.7];
+  entry [shape = point, width = 0.08];
+  v0 [style = solid, label = \"permitted\"];
+";
+
+// An edge, with where it comes from.
+fn draw_edge(rt: &impl Print, from: &impl Display, edge: Edge, style: &str) -> io::Result<()> {
+    let node = edge.node().0;
+    let head = if edge.flagged() {
+        ", arrowhead = dot"
+    } else {
+        ""
+    };
+    println!(rt; "  {from} -> v{node} [style = {style}{head}];")
 }
 
-// Whether nodes k and k + 1 are in one row.
-fn shares_row(table: &[u8], nodes: usize, k: usize) -> bool
-    requires { 8 * nodes + 8 ≤ length table.now }
-{
-    if nodes <= k {
-        return false;
-    }
-    diagram::height_at(table, Node(k)) == diagram::height_at(table, Node(k + 1))
-}
-
-// The setting that node k asks.
-fn setting_of(table: &[u8], n: u64, nodes: usize, k: usize) -> u64
-    requires { HasDiagram table.now n nodes × (0 < k) × (k ≤ nodes) }
-{
-    n - diagram::height_at(table, Node(k)) + 1
-}
-
-// Node k in its row, which begins at the greatest node of the height and ends at the least.
-fn say_node<P: Print>(rt: &P, table: &[u8], n: u64, nodes: usize, k: usize) -> io::Result<()>
-    requires { HasDiagram table.now n nodes × (0 < k) × (k ≤ nodes) }
-{
-    if !shares_row(table, nodes, k) {
-        say(rt, b"  { rank = same;")?;
-    }
-    say_number(rt, b" v", k as u64)?;
-    say_number(rt, b" [label = \"setting ", setting_of(table, n, nodes, k))?;
-    say(rt, b"\"];")?;
-    if !shares_row(table, nodes, k - 1) {
-        say(rt, b" }\n")?;
-    }
-    Ok(())
-}
-
-// The rows.
-fn say_nodes<P: Print>(rt: &P, table: &[u8], n: u64, nodes: usize) -> io::Result<()>
-    requires { HasDiagram table.now n nodes }
-{
-    for i in 0..nodes {
-        say_node(rt, table, n, nodes, nodes - i)?;
-    }
-    Ok(())
-}
-
-// An edge, after where it comes from.
-fn say_edge<P: Print>(rt: &P, edge: Edge, style: &[u8]) -> io::Result<()> {
-    say_number(rt, b" -> v", edge.node().0 as u64)?;
-    say(rt, b" [style = ")?;
-    say(rt, style)?;
-    if edge.flagged() {
-        say(rt, b", arrowhead = dot")?;
-    }
-    say(rt, b"];\n")?;
-    Ok(())
-}
-
-// An edge of node k.
-fn say_edge_from<P: Print>(rt: &P, k: usize, edge: Edge, style: &[u8]) -> io::Result<()> {
-    say_number(rt, b"  v", k as u64)?;
-    say_edge(rt, edge, style)?;
-    Ok(())
-}
-
-// Whether a record has an edge to node k.
-fn names(record: Record, k: usize) -> bool {
-    if record.high.node().0 == k {
-        return true;
-    }
-    record.low.node().0 == k
-}
-
-// Where node k is the last of its row and has no edge to the first of the next, an unseen one: it keeps the rows in order.
-fn say_order<P: Print>(
-    rt: &P,
-    table: &[u8],
+// An accepted table.
+#[derive(Clone, Copy)]
+struct Drawing<'a> {
+    table: &'a [u8],
+    settings: u64,
     nodes: usize,
-    k: usize,
-    record: Record,
-) -> io::Result<()>
-    requires { (8 * nodes + 8 ≤ length table.now) × (0 < k) × (k ≤ 65535) }
-{
-    if shares_row(table, nodes, k - 1) {
-        return Ok(());
-    }
-    if !names(record, k - 1) {
-        say_edge_from(rt, k, Edge::new(Node(k - 1), false), b"invis")?;
-    }
-    Ok(())
+    ghost holds: { HasDiagram table.now settings nodes },
 }
 
-// The edges of node k.
-fn say_edges_of<P: Print>(rt: &P, table: &[u8], nodes: usize, k: usize) -> io::Result<()>
-    requires { (8 * nodes + 8 ≤ length table.now) × (0 < k) × (k ≤ nodes) × (nodes ≤ 65535) }
-{
-    let record = diagram::record_at(table, Node(k));
-    say_edge_from(rt, k, record.high, b"solid")?;
-    say_edge_from(rt, k, record.low, b"dashed")?;
-    say_order(rt, table, nodes, k, record)?;
-    Ok(())
-}
-
-// The edges, the root edge first.
-fn say_edges<P: Print>(rt: &P, table: &[u8], nodes: usize) -> io::Result<()>
-    requires { (8 * nodes + 8 ≤ length table.now) × (nodes ≤ 65535) }
-{
-    say(rt, b"  entry")?;
-    say_edge(rt, diagram::header_of(table).root, b"solid")?;
-    for i in 0..nodes {
-        say_edges_of(rt, table, nodes, nodes - i)?;
+impl Drawing<'_> {
+    // Whether nodes k and k + 1 are in one row.
+    fn shares_row(&self, k: usize) -> bool {
+        let table = self.table;
+        k < self.nodes
+            && diagram::height_at(table, Node(k)) == diagram::height_at(table, Node(k + 1))
     }
-    Ok(())
-}
 
-// The graph of an accepted table.
-fn draw_accepted<P: Print>(rt: &P, table: &[u8], n: u64, nodes: usize) -> io::Result<()>
-    requires { HasDiagram table.now n nodes }
-{
-    say_head(rt)?;
-    say_nodes(rt, table, n, nodes)?;
-    say_edges(rt, table, nodes)?;
-    say(rt, b"}\n")?;
-    Ok(())
+    // The setting that node k asks.
+    fn setting_of(&self, k: usize) -> u64
+        requires { (0 < k) × (k ≤ self.now.nodes) }
+    {
+        self.settings - diagram::height_at(self.table, Node(k)) + 1
+    }
+
+    // Node k in its row, which begins at the greatest node of the height and ends at the least.
+    fn draw_node(&self, rt: &impl Print, k: usize) -> io::Result<()>
+        requires { (0 < k) × (k ≤ self.now.nodes) }
+    {
+        if !self.shares_row(k) {
+            print!(rt; "  {{ rank = same;")?;
+        }
+        let setting = self.setting_of(k);
+        print!(rt; " v{k} [label = \"setting {setting}\"];")?;
+        if !self.shares_row(k - 1) {
+            println!(rt; " }}")?;
+        }
+        Ok(())
+    }
+
+    // The rows.
+    fn draw_nodes(&self, rt: &impl Print) -> io::Result<()> {
+        for k in (1..=self.nodes).rev() {
+            self.draw_node(rt, k)?;
+        }
+        Ok(())
+    }
+
+    // The edges of node k. Where it is the last of its row and has no edge to the first of the next, an unseen one keeps the rows in order.
+    fn draw_edges_of(&self, rt: &impl Print, k: usize) -> io::Result<()>
+        requires { (0 < k) × (k ≤ self.now.nodes) }
+    {
+        let from = format_args!("v{k}");
+        let record = diagram::record_at(self.table, Node(k));
+        draw_edge(rt, &from, record.high, "solid")?;
+        draw_edge(rt, &from, record.low, "dashed")?;
+        let next = Node(k - 1);
+        if !self.shares_row(k - 1) && record.high.node() != next && record.low.node() != next {
+            draw_edge(rt, &from, Edge::new(next, false), "invis")?;
+        }
+        Ok(())
+    }
+
+    // The edges, the root edge first.
+    fn draw_edges(&self, rt: &impl Print) -> io::Result<()> {
+        draw_edge(rt, &"entry", diagram::header_of(self.table).root, "solid")?;
+        for k in (1..=self.nodes).rev() {
+            self.draw_edges_of(rt, k)?;
+        }
+        Ok(())
+    }
+
+    // The graph.
+    fn draw(&self, rt: &impl Print) -> io::Result<()> {
+        print!(rt; "{HEAD}")?;
+        self.draw_nodes(rt)?;
+        self.draw_edges(rt)?;
+        println!(rt; "}}")
+    }
 }
 
 // The graph of a table. A sheet of 512 places serves every table of 4,096 bytes.
-fn draw<P: Print>(rt: &P, table: &[u8]) -> io::Result<()> {
-    let mut sheet = [0u8; 4096];
-    let checked = checking::check(table, &mut sheet);
-    match checked {
-        Checked::Table(shape) => draw_accepted(rt, table, shape.settings, shape.nodes)?,
-        Checked::Refused(refusal) => programs::refuse(rt, refusal)?,
+fn draw(rt: &impl Print, table: &[u8]) -> io::Result<()> {
+    let mut sheet = [0; 4096];
+    match checking::check(table, &mut sheet) {
+        Ok(shape) => {
+            let drawing = Drawing {
+                table,
+                settings: shape.settings,
+                nodes: shape.nodes,
+            };
+            drawing.draw(rt)
+        }
+        Err(refusal) => println!(rt; "{refusal}"),
     }
-    Ok(())
 }
 
 fn main(rt: HostRuntime) -> io::Result<()> {
-    let mut memory = [0u8; 4097];
-    let input = programs::read_table(&rt, &mut memory)?;
-    if input.whole {
-        draw(&rt, &memory[..input.length])?;
+    let mut memory = [0; 4097];
+    if let Some(length) = programs::read_table(&rt, &mut memory)? {
+        draw(&rt, &memory[..length])?;
     }
     Ok(())
 }

@@ -88,29 +88,24 @@ off_before h y z some q p r =
     let l : y / m + 1 ≤ z / m = omega (arith, half h some y, half h some z) in
     omega (arith, split y (h - 1), split z (h - 1), mod-lt y (pow_pos (h - 1)), mul-le-mul_right m l)
 
--- in the terms of the code: the setting, and the number with it set
-pub bit_code : (h x : ℕ) → x / 2 ^ (h - 1) % 2 ≡ indicator (bit h x)
-unfolding bit indicator
-bit_code h x = go (x / 2 ^ (h - 1)) (bit h x) refl
-  where
-    go : (d : ℕ) (b : Bool) → eqb (d % 2) 1 ≡ b → d % 2 ≡ indicator b
-    go d true q = eqb-true (d % 2) 1 q
-    go d false q = let n = eqb-false (d % 2) 1 q in omega arith
+-- in the terms of the code: the number with one setting set
+module _ (b : Bool) (h x : ℕ) (some : 0 < h) (few : h ≤ 63) (small : x < 2 ^ 63) (d : ℕ) (d-is : d ≡ bool_byte b) where
+  digit_is : d ≡ indicator b
+  digit_is = d-is ∙ bool_byte_lem b
 
-module _ (b : Bool) (h x : ℕ) (some : 0 < h) (few : h ≤ 63) (small : x < 2 ^ 63) where
-  pub before_fits : x / 2 ^ h * 2 + bool_byte b < 18446744073709551616
-  before_fits = omega (arith, shr_le x h, bool_byte_lem b, indicator_le b)
+  pub before_fits : x / 2 ^ h * 2 + d < 18446744073709551616
+  before_fits = omega (arith, shr_le x h, digit_is, indicator_le b)
 
   all_fits : set_at b h x < 2 ^ 63
   all_fits = set_fits b h x some 63 few small
 
-  shifted : (x / 2 ^ h * 2 + bool_byte b) * 2 ^ (h - 1) % 18446744073709551616 ≡ (x / 2 ^ h * 2 + indicator b) * 2 ^ (h - 1)
+  shifted : (x / 2 ^ h * 2 + d) * 2 ^ (h - 1) % 18446744073709551616 ≡ (x / 2 ^ h * 2 + indicator b) * 2 ^ (h - 1)
   unfolding set_at
-  shifted = rw (bool_byte_lem b) (mod-eq_of_lt (omega (arith, all_fits)))
+  shifted = rw digit_is (mod-eq_of_lt (omega (arith, all_fits)))
 
-  pub set_code : (x / 2 ^ h * 2 + bool_byte b) * 2 ^ (h - 1) % 18446744073709551616 + x % (1 * 2 ^ (h - 1) % 18446744073709551616) ≡ set_at b h x
+  pub set_code : (x / 2 ^ h * 2 + d) * 2 ^ (h - 1) % 18446744073709551616 + x % (1 * 2 ^ (h - 1) % 18446744073709551616) ≡ set_at b h x
   unfolding set_at
   set_code = rw (shifted, one_shl (h - 1) (omega arith))
 
-  pub sum_fits : (x / 2 ^ h * 2 + bool_byte b) * 2 ^ (h - 1) % 18446744073709551616 + x % (1 * 2 ^ (h - 1) % 18446744073709551616) < 18446744073709551616
+  pub sum_fits : (x / 2 ^ h * 2 + d) * 2 ^ (h - 1) % 18446744073709551616 + x % (1 * 2 ^ (h - 1) % 18446744073709551616) < 18446744073709551616
   sum_fits = rw set_code (omega (arith, all_fits))

@@ -11,21 +11,14 @@ ghost use Rattle.division.specs.Answers.{spanned_as};
 ghost use Rattle.division.specs.Operations.{no_part, span_of, spanning};
 ghost use Rattle.division.specs.Span.{start, size};
 
-use checking::Checked;
 use diagram::{Edge, Rank};
 use rules::Refusal;
 
 // A part: the rank at which it starts (that of the next part, where it is empty), and how many setups it has.
-#[derive(Clone, Copy)]
+#[derive(Clone, Copy, Debug, PartialEq, Eq)]
 pub struct Extent {
     pub start: Rank,
     pub size: u64,
-}
-
-#[derive(Clone, Copy)]
-pub enum Spanned {
-    Part(Extent),
-    Refused(Refusal),
 }
 
 // Whether k is no number of parts, or j no index of one of them.
@@ -74,29 +67,25 @@ pub fn span_under(
     e: Edge,
     k: u64,
     j: u64,
-) -> Spanned
+) -> Result<Extent, Refusal>
     requires { Countable table.now sheet.old n nodes e.value }
     ensures { (spanned_as result ≡ span_of k j (count_below (under (word_at table.now) e.value) (2 ^ n)))
         × (sheet.new ≡ sheet_by (stored (word_at table.now)) (nodes + 1) (spanned_as result) sheet.old) }
 {
     if no_part(k, j) {
-        return Spanned::Refused(Refusal::PartRange);
+        return Err(Refusal::PartRange);
     }
     counting::fill(table, sheet, n, nodes);
     let c = counting::count_under(sheet, e, n);
-    Spanned::Part(extent_of(k, j, c))
+    Ok(extent_of(k, j, c))
 }
 
 // The span of part j of k.
-pub fn span(table: &[u8], k: u64, j: u64, sheet: &mut [u8]) -> Spanned
+pub fn span(table: &[u8], k: u64, j: u64, sheet: &mut [u8]) -> Result<Extent, Refusal>
     ensures { (spanned_as result ≡ spanning table.now k j sheet.old)
         × (sheet.new ≡ blank table.now sheet.old) }
 {
-    let checked = checking::begin(table, sheet);
-    let Checked::Table(_) = checked else {
-        return Spanned::Refused(checking::refusal_of(checked));
-    };
-    let header = diagram::header_of(table);
+    let header = checking::begin(table, sheet)?;
     let spanned = span_under(
         table,
         sheet,

@@ -1,11 +1,9 @@
 -- Writing the new records one after the other. Assumes nothing.
-use Prim.Native.Nat.{ℕ, suc, ◌+◌, ◌-◌, ◌*◌, ◌/◌, ◌≤◌, ◌<◌}
+use Prim.Native.Nat.{ℕ, zero, suc, ◌+◌, ◌-◌, ◌*◌, ◌/◌, ◌≤◌, ◌<◌}
 use mathlib.Core.Path.{◌≡◌, refl, sym, ap, ◌∙◌}
 use mathlib.Core.Bool.{Bool}
 use mathlib.Core.List.{List}
 use native.Mathlib.Omega.{arith}
-use native.Mathlib.Nat.{le_antisymm}
-use native.Mathlib.Numerals.{add-one}
 use lib.ListN.{length}
 use Rattle.words.specs.Words.{word_at, put_word}
 use Rattle.words.proofs.Cases.{Tri, less, same, more, tri}
@@ -17,8 +15,6 @@ use Rattle.numbering.specs.Renewal.{image, renew, StaysPlain}
 use Rattle.numbering.specs.Numbered.{Good, dropped, made, Closed, PlainTable, Finished}
 use Rattle.numbering.proofs.Images.{renew_node}
 use Rattle.numbering.proofs.Plain.{stays_plain, edges_differ}
-use Rattle.cutting.specs.Cut.{extended}
-use Rattle.cutting.proofs.Extended.{extended_low}
 use Rattle.emitting.specs.Emitting.{record_number, HasRecord, Emitted, quiet, wrote, NumbersFit, HoldsRecords}
 
 module _ (R W : Words) (n M c root : ℕ) (F : Finished R W n M c root) where
@@ -74,15 +70,12 @@ module _ (R W : Words) (header : ℕ) (out : List ℕ) where
         before u q Q (more p) = U.other (record_number W (suc u)) (λ r. omega arith) ∙ G.records u q Q
         before u q Q (same p) = rw p U.here ∙ sym (P.one u v (omega arith) inside Q O p)
 
--- the next word of a table
-pub table_word : (table : List ℕ) (N : ℕ) (list : List ℕ) (v z : ℕ) → v < N → z ≡ word_at table (v + 1) → z ≡ extended (word_at table) N list (v + 1)
-table_word table N list v z l e = extended_low (word_at table) N list (v + 1) z (omega arith) e
-
--- a node of a table that keeps its order has a new record, if it is kept, and its then-edge stays plain
-pub table_plain : (R W : Words) (n N M v z : ℕ) → N ≤ M → Closed R W M → PlainTable R W n N → v < N → z ≡ R (v + 1) → 0 < W (v + 1) → StaysPlain W z × HasRecord W (v + 1) z
+-- node v of a table that keeps its order has a new record, if it is kept, and its then-edge stays plain
+pub table_plain : (R W : Words) (n N M v z : ℕ) → N ≤ M → Closed R W M → PlainTable R W n N → 0 < v → v ≤ N → z ≡ R v → 0 < W v → StaysPlain W z × HasRecord W v z
 unfolding then_edge else_edge
-table_plain R W n N M v z m C T l e =
-    rw (e, add-one v) (λ k. (
+table_plain R W n N M zero z m C T s l e = absurd (omega arith)
+table_plain R W n N M (suc v) z m C T s l e =
+    rw e (λ k. (
       stays_plain R W n N M (N + 1) T.table m C T.kept v l k before,
       record { live = k; apart = edges_differ R W n N M (N + 1) T.table m C T.kept v l k before },
     ))
@@ -90,19 +83,22 @@ table_plain R W n N M v z m C T l e =
     before : (b : Bool) → side R b (suc v) / 2 < N + 1
     before b = omega (arith, side_node R n N T.table.ordered b v l)
 
--- the turn of the loop after node v, where z is the next node's record
-module _ (R W : Words) (M size v z : ℕ) (P : NumbersFit R W M size) (inside : v < M) (z-is : z ≡ R (v + 1)) where
-  -- there is room for the next node's record
-  pub next_room : (out : List ℕ) → length out ≡ size → HasRecord W (v + 1) z → 8 * record_number W (v + 1) + 8 ≤ length out
-  next_room out long O = rw (long, add-one v) (P.room v inside (rw (z-is, add-one v) at O))
+-- the turn of the loop at node v, of record z: there is room for its new record
+pub next_room : (R W : Words) (M size v z : ℕ) → NumbersFit R W M size → 0 < v → v ≤ M → z ≡ R v → (out : List ℕ) → length out ≡ size → HasRecord W v z → 8 * record_number W v + 8 ≤ length out
+next_room R W M size zero z P s l e out long O = absurd (omega arith)
+next_room R W M size (suc v) z P s l e out long O = rw long (P.room v l (rw e at O))
 
-  -- ... and its record is written
-  pub next_records : (header : ℕ) (out out' : List ℕ) → length out ≡ size → HoldsRecords R W v header out → Emitted W out out' (v + 1) z → HoldsRecords R W (v + 1) header out'
-  next_records header out out' long G E = rw (add-one v) (records_next R W header out M v inside (rw (← long) at P) G out' (rw (z-is, add-one v) at E))
+-- ... and it is written
+pub next_records : (R W : Words) (M size v z : ℕ) → NumbersFit R W M size → 0 < v → v ≤ M → z ≡ R v → (header : ℕ) (out out' : List ℕ) → length out ≡ size → HoldsRecords R W (v - 1) header out
+    → Emitted W out out' v z → HoldsRecords R W v header out'
+next_records R W M size zero z P s l e header out out' long G E = absurd (omega arith)
+next_records R W M size (suc v) z P s l e header out out' long G E =
+    let d : suc v - 1 ≡ v = omega arith in
+    records_next R W header out M v l (rw (← long) at P) (rw d at G) out' (rw e at E)
 
--- after the last node
-pub records_last : (R W : Words) (header : ℕ) (out : List ℕ) (v M : ℕ) → v ≤ M → M ≤ v → HoldsRecords R W v header out → HoldsRecords R W M header out
-records_last R W header out v M l m G = rw (le_antisymm m l) G
+-- nodes 1 to v are nodes 1 to m
+pub records_as : (R W : Words) (header : ℕ) (out : List ℕ) (v m : ℕ) → v ≡ m → HoldsRecords R W v header out → HoldsRecords R W m header out
+records_as R W header out v m e G = rw (← e) G
 
 -- the first word is the header
 pub records_own : {R W : Words} {m header : ℕ} {out : List ℕ} → HoldsRecords R W m header out → HoldsRecords R W m (word_at out 0) out

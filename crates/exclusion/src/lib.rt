@@ -11,59 +11,53 @@ ghost use Rattle.walking.specs.Inner.{Lies};
 ghost use Rattle.exclusion.specs.Answers.{found_as};
 ghost use Rattle.exclusion.specs.Operations.{find_setup, ruling_out};
 
-use checking::Checked;
 use diagram::{Edge, Setup};
 use rules::Refusal;
 
 // p, from 1 to n: no permitted setup begins with the same first p settings. And the smallest permitted setup that agrees in the first p - 1.
-#[derive(Clone, Copy)]
+#[derive(Clone, Copy, Debug, PartialEq, Eq)]
 pub struct Exclusion {
     pub settings: u64,
     pub given: Setup,
 }
 
 // The setup is permitted; or nothing is, and p is 0; or it is ruled out.
-#[derive(Clone, Copy)]
-pub enum RuledOut {
+#[derive(Clone, Copy, Debug, PartialEq, Eq)]
+pub enum Ruling {
     Permitted,
     Empty,
     By(Exclusion),
-    Refused(Refusal),
 }
 
 // Rule 12, and what is found of setup x of n settings under edge e.
-fn find_setup(table: &[u8], n: u64, e: Edge, x: Setup) -> RuledOut
+fn find_setup(table: &[u8], n: u64, e: Edge, x: Setup) -> Result<Ruling, Refusal>
     requires { Lies table.now n e.value }
     ensures { found_as result ≡ find_setup x.0 n (under (word_at table.now) e.value) }
 {
     if 1 << n <= x.0 {
-        return RuledOut::Refused(Refusal::SetupRange);
+        return Err(Refusal::SetupRange);
     }
     let way = way::follow(table, n, e, x);
     if way.edge.value == 0 {
-        return RuledOut::Permitted;
+        return Ok(Ruling::Permitted);
     }
     if n < way.height {
-        return RuledOut::Empty;
+        return Ok(Ruling::Empty);
     }
     let front = way::turned(x, way.height);
     let rest = way::smallest_under(table, way.other);
-    RuledOut::By(Exclusion {
+    Ok(Ruling::By(Exclusion {
         settings: n + 1 - way.height,
         given: Setup(front.0 + rest.0),
-    })
+    }))
 }
 
 // The settings that rule setup x out.
-pub fn ruled_out(table: &[u8], x: Setup, sheet: &mut [u8]) -> RuledOut
+pub fn ruled_out(table: &[u8], x: Setup, sheet: &mut [u8]) -> Result<Ruling, Refusal>
     ensures { (found_as result ≡ ruling_out table.now x.0 sheet.old)
         × (sheet.new ≡ blank table.now sheet.old) }
 {
-    let checked = checking::begin(table, sheet);
-    let Checked::Table(_) = checked else {
-        return RuledOut::Refused(checking::refusal_of(checked));
-    };
-    let header = diagram::header_of(table);
+    let header = checking::begin(table, sheet)?;
     words::blank(sheet, header.nodes + 1);
     find_setup(table, header.settings, header.root, x)
 }

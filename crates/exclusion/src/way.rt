@@ -11,7 +11,7 @@ ghost use Rattle.exclusion.specs.Inner.{Follows, turned_at};
 use diagram::{Edge, Setup};
 
 // A setup's way: the edge reached, the height of the last node passed (one above the settings, where none was), and the edge that was not taken there.
-#[derive(Clone, Copy)]
+#[derive(Clone, Copy, Debug, PartialEq, Eq)]
 pub struct Way {
     pub edge: Edge,
     pub height: u64,

@@ -9,7 +9,7 @@ ghost use Rattle.rules.specs.Refusals.{verdict_as};
 ghost use Rattle.faults.specs.Inner.{previous};
 
 use diagram::{Edge, Node, Record};
-use rules::{Refusal, Verdict};
+use rules::Refusal;
 
 // Whether edge e of record k, whose height h is above 0, leads to a node not below k or to one not below h. The sink is below both.
 fn is_misled(table: &[u8], k: Node, h: u64, e: Edge) -> bool
@@ -17,13 +17,7 @@ fn is_misled(table: &[u8], k: Node, h: u64, e: Edge) -> bool
     ensures { 0 < h → result ≡ misled (word_at table.now) k.0 e.value }
 {
     let node = e.node();
-    if node.0 == 0 {
-        return false;
-    }
-    if k.0 <= node.0 {
-        return true;
-    }
-    h <= diagram::height_at(table, node)
+    node.0 != 0 && (k.0 <= node.0 || h <= diagram::height_at(table, node))
 }
 
 // Whether one of the edges of record k does.
@@ -31,45 +25,40 @@ fn has_misled(table: &[u8], k: Node, fields: Record) -> bool
     requires { (fields.height ≡ height (word_at table.now) k.0) × (8 * k.0 + 8 ≤ length table.now) }
     ensures { 0 < fields.height → result ≡ (misled (word_at table.now) k.0 fields.high.value || misled (word_at table.now) k.0 fields.low.value) }
 {
-    if is_misled(table, k, fields.height, fields.high) {
-        return true;
-    }
-    is_misled(table, k, fields.height, fields.low)
+    is_misled(table, k, fields.height, fields.high)
+        || is_misled(table, k, fields.height, fields.low)
 }
 
 // Whether a height is 0 or above n.
 pub fn is_unfit(n: u64, h: u64) -> bool
     ensures { result ≡ (eqb h 0 || ltb n h) }
 {
-    if h == 0 {
-        return true;
-    }
-    n < h
+    h == 0 || n < h
 }
 
 // Rules 4 to 8, of record k, which is `word` and comes after `before`. An edge's fault is named before the order's.
-pub fn check_record(table: &[u8], n: u64, k: Node, word: u64, before: u64) -> Verdict
+pub fn check_record(table: &[u8], n: u64, k: Node, word: u64, before: u64) -> Result<(), Refusal>
     requires { (0 < k.0) × (8 * k.0 + 8 ≤ length table.now) × (word ≡ word_at table.now k.0) × (before ≡ previous (word_at table.now) k.0) }
     ensures { verdict_as result ≡ check_record (word_at table.now) n k.0 }
 {
-    let record = Record::of(word);
+    let record = Record::from(word);
     let unfit = is_unfit(n, record.height);
     let misled = has_misled(table, k, record);
     let falls = word <= before;
     if unfit {
-        return Verdict::Refused(Refusal::Height(k));
+        return Err(Refusal::Height(k));
     }
     if misled {
-        return Verdict::Refused(Refusal::Target(k));
+        return Err(Refusal::Target(k));
     }
     if falls {
-        return Verdict::Refused(Refusal::Order(k));
+        return Err(Refusal::Order(k));
     }
     if record.high.flagged() {
-        return Verdict::Refused(Refusal::ThenFlag(k));
+        return Err(Refusal::ThenFlag(k));
     }
-    if record.high.value == record.low.value {
-        return Verdict::Refused(Refusal::EqualEdges(k));
+    if record.high == record.low {
+        return Err(Refusal::EqualEdges(k));
     }
-    Verdict::Passed
+    Ok(())
 }

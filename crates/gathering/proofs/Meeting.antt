@@ -140,9 +140,6 @@ module _ (w : Words) (s t : List ℕ) (P i count root v r : ℕ) (M : Met w s P 
     named = by_word (λ k x. (x ≡ root → ⊥) → (j : ℕ) × (b : Bool) × (j < r) × (side w b (word_at t j) / 2 ≡ x)) (λ k l n. leads (word_at s k) (M.named k l n)) (λ k a b n. leads v (why n));
   }
 
-  pub met_marked : mark t P v ≡ 1
-  met_marked = X.marked
-
   pub met_word : (k : ℕ) → k < count → word_at t k ≡ word_at s k
   met_word = word_stays
 

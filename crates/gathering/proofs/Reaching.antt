@@ -5,45 +5,12 @@ use mathlib.Core.Logic.{inl, inr}
 use mathlib.Core.Bool.{Bool, true, false, cond}
 use mathlib.Core.List.{List}
 use native.Mathlib.Omega.{arith}
-use lib.ListN.{length}
 use Rattle.words.specs.Words.{word_at}
 use Rattle.words.proofs.Cases.{less, same, more, tri}
 use Rattle.diagram.specs.Format.{Words, height}
 use Rattle.diagram.specs.Reading.{side}
-use Rattle.gathering.specs.Inner.{LooseWithin, laid, NamedBy, Reached, mark, MarksStay, AllMet, IsNode, AllLaid, Laid}
+use Rattle.gathering.specs.Inner.{LooseWithin, laid, NamedBy, Reached, mark, AllMet, AllLaid}
 use Rattle.gathering.proofs.Meeting.{edge_inside, node_tall}
-
--- none is laid yet
-pub all_laid_none : (w : Words) (s : List ℕ) (P : ℕ) → AllLaid w s s P 0
-all_laid_none w s P = record { long = refl; marks = λ u. refl; nodes = λ v l. absurd (omega arith) }
-
--- one more
-pub all_laid_next : (w : Words) (s a b : List ℕ) (P v h t e : ℕ) → AllLaid w s a P v → v < P → IsNode w a P v h t e → length b ≡ length a → Laid (word_at a) (word_at b) P v h t e → MarksStay a b P
-    → AllLaid w s b P (v + 1)
-all_laid_next w s a b P v h t e L inside N long Y stay = record {
-  long = long ∙ L.long;
-  marks = λ u. stay u ∙ L.marks u;
-  nodes = λ u l. elim (tri u v) [
-    | less q ↦ old u q
-    | same q ↦ rw q new
-    | more q ↦ absurd (omega arith)
-  ];
-}
-  where
-    old : (u : ℕ) → u < v → IsNode w s P u (word_at b (2 * P + u)) (word_at b (P + u)) (word_at b (3 * P + u))
-    old u l =
-        rw (
-          Y.others (2 * P + u) (λ q. omega arith) (λ q. omega arith) (λ q. omega arith),
-          Y.others (P + u) (λ q. omega arith) (λ q. omega arith) (λ q. omega arith),
-          Y.others (3 * P + u) (λ q. omega arith) (λ q. omega arith) (λ q. omega arith),
-        )
-        (L.nodes u l)
-
-    new : IsNode w s P v (word_at b (2 * P + v)) (word_at b (P + v)) (word_at b (3 * P + v))
-    new = rw (Y.height_put, Y.then_put, Y.else_put) (record {
-      none = λ q. N.none (elim q [ inl z ↦ inl z | inr z ↦ inr (L.marks v ∙ z) ]);
-      some = λ p q. N.some p (subst (λ (m : ℕ). 0 < m) (sym (L.marks v)) q);
-    })
 
 module _ (t : List ℕ) (P root : ℕ) (I : LooseWithin t P root) (inside : root < P) (s s' : List ℕ) (A : AllMet (word_at t) s P root) (L : AllLaid (word_at t) s s' P P) where
   abbrev w : Words

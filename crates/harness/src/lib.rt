@@ -1,4 +1,5 @@
 // Checking, counting, testing and spans for C, each answer packed into one number. For the outside tests and the bench.
+// (What packs an answer stands in each function, as in `console`: a function that takes a closure for the value would need a `requires` on it, and be no plainer.)
 #![tactic(auto)]
 
 ghost use Rattle.std.specs.Prelude.{◌≡◌, ℕ, ◌+◌, ◌*◌, ◌^◌};
@@ -7,9 +8,7 @@ ghost use Rattle.checking.specs.Operations.{checking, counting, testing, blank, 
 ghost use Rattle.division.specs.Operations.{spanning};
 ghost use Rattle.rules.specs.Packed.{packed};
 
-use checking::{Checked, Counted, Tested};
 use diagram::Setup;
-use division::Spanned;
 
 // 2^32 × n + N.
 #[unsafe(no_mangle)]
@@ -19,8 +18,8 @@ pub extern "C" fn setupbook_check(table: &[u8], sheet: &mut [u8]) -> u64
 {
     let checked = checking::check(table, sheet);
     match checked {
-        Checked::Table(shape) => 4294967296 * shape.settings + (shape.nodes as u64),
-        Checked::Refused(r) => rules::pack_refusal(r),
+        Ok(shape) => 4294967296 * shape.settings + (shape.nodes as u64),
+        Err(r) => rules::pack_refusal(r),
     }
 }
 
@@ -32,8 +31,8 @@ pub extern "C" fn setupbook_count(table: &[u8], sheet: &mut [u8]) -> u64
 {
     let counted = checking::count(table, sheet);
     match counted {
-        Counted::Total(c) => c,
-        Counted::Refused(r) => rules::pack_refusal(r),
+        Ok(c) => c,
+        Err(r) => rules::pack_refusal(r),
     }
 }
 
@@ -45,8 +44,8 @@ pub extern "C" fn setupbook_test(table: &[u8], setup: u64, sheet: &mut [u8]) -> 
 {
     let tested = checking::test(table, Setup(setup), sheet);
     match tested {
-        Tested::Permitted(b) => b as u64,
-        Tested::Refused(r) => rules::pack_refusal(r),
+        Ok(b) => b as u64,
+        Err(r) => rules::pack_refusal(r),
     }
 }
 
@@ -58,8 +57,8 @@ pub extern "C" fn setupbook_span_start(table: &[u8], k: u64, j: u64, sheet: &mut
 {
     let spanned = division::span(table, k, j, sheet);
     match spanned {
-        Spanned::Part(p) => p.start.0,
-        Spanned::Refused(r) => rules::pack_refusal(r),
+        Ok(p) => p.start.0,
+        Err(r) => rules::pack_refusal(r),
     }
 }
 
@@ -71,7 +70,7 @@ pub extern "C" fn setupbook_span_size(table: &[u8], k: u64, j: u64, sheet: &mut 
 {
     let spanned = division::span(table, k, j, sheet);
     match spanned {
-        Spanned::Part(p) => p.size,
-        Spanned::Refused(r) => rules::pack_refusal(r),
+        Ok(p) => p.size,
+        Err(r) => rules::pack_refusal(r),
     }
 }

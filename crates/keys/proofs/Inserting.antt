@@ -2,10 +2,9 @@
 use Prim.Native.Nat.{ℕ, ◌+◌, ◌*◌, ◌^◌, ◌≤◌, ◌<◌}
 use mathlib.Core.Path.{◌≡◌, refl, sym, ap, ◌∙◌, subst}
 use native.Mathlib.Omega.{arith}
-use borrow.Author.Count.{below_more}
 use Rattle.words.proofs.Cases.{less, same, more, tri}
 use Rattle.words.proofs.Stores.{Updated}
-use Rattle.keys.specs.Keys.{probe, slot_word, Taken, Placed, Keys, Absent, Open, Inserted, Cleared}
+use Rattle.keys.specs.Keys.{probe, slot_word, Taken, Placed, Keys, Absent, Open, Inserted}
 use Rattle.keys.proofs.Probing.{probe_below, taken_none, taken_cong, taken_more}
 
 -- no slot is taken: the empty set
@@ -40,27 +39,6 @@ keys_agree W W' P count K low high = record {
   where
     same_slot : (key d : ℕ) → 0 < P → W' (2 * P + probe P key d) ≡ W (2 * P + probe P key d)
     same_slot key d l = high (probe P key d) (probe_below P key l d)
-
--- the first m slots are free, and the words outside the slots are as they were
-pub record Freed (W W' : ℕ → ℕ) (P m : ℕ) : Type 0 where
-  pub bound : m ≤ P
-  pub free : (s : ℕ) → s < m → W' (2 * P + s) ≡ 0
-  pub before : (i : ℕ) → i < 2 * P → W' i ≡ W i
-  pub behind : (i : ℕ) → 3 * P ≤ i → W' i ≡ W i
-
-pub freed_none : (W : ℕ → ℕ) (P : ℕ) → Freed W W P 0
-freed_none W P = record { bound = omega arith; free = λ s l. absurd (omega arith); before = λ i l. refl; behind = λ i l. refl }
-
-pub freed_next : (W X W' : ℕ → ℕ) (P m : ℕ) → Freed W X P m → m < P → Updated X W' (2 * P + m) 0 → Freed W W' P (m + 1)
-freed_next W X W' P m F l U = record {
-  bound = omega arith;
-  free = below_more (λ s. W' (2 * P + s) ≡ 0) m (λ s q. U.other (2 * P + s) (λ e. omega arith) ∙ F.free s q) U.here;
-  before = λ i q. U.other i (λ e. omega arith) ∙ F.before i q;
-  behind = λ i q. U.other i (λ e. omega arith) ∙ F.behind i q;
-}
-
-pub freed_all : (W W' : ℕ → ℕ) (P m : ℕ) → Freed W W' P m → P ≤ m → Cleared W W' P
-freed_all W W' P m F l = record { keys = empty_keys W' P (λ s q. F.free s (omega arith)); before = F.before; behind = F.behind }
 
 -- an open slot is one of the P
 pub open_below : (W : ℕ → ℕ) (P key slot : ℕ) → Open W P key slot → 0 < P → slot < P

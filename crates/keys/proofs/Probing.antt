@@ -1,5 +1,5 @@
 -- The slots of the search for a key, and how many are taken. Assumes nothing.
-use Prim.Native.Nat.{ℕ, zero, suc, ◌+◌, ◌-◌, ◌*◌, ◌%◌, ◌≤◌, ◌<◌}
+use Prim.Native.Nat.{ℕ, zero, suc, ◌+◌, ◌-◌, ◌*◌, ◌%◌, ◌≤◌, ◌<◌, min}
 use mathlib.Core.Path.{◌≡◌, refl, sym, ap, ◌∙◌, subst}
 use mathlib.Core.Bool.{Bool, true, false, cond}
 use native.Mathlib.Omega.{arith}
@@ -9,6 +9,14 @@ use lib.Dec.{eqb, ltb}
 use borrow.Author.Tests.{lt-ltb, le-ltb, eq-eqb, ne_eqb}
 use Rattle.words.proofs.Cases.{less, same, more, tri}
 use Rattle.keys.specs.Keys.{mixed, homes, scaled, home, stride, strides, further, probe, taken_below}
+
+-- the lesser of two numbers
+pub lesser : (a b : ℕ) → min a b ≡ cond (ltb a b) a b
+lesser a b = elim (tri a b) [
+  | less q ↦ rw (lt-ltb a b q) (omega arith)
+  | same q ↦ rw (le-ltb a b (omega arith)) (omega arith)
+  | more q ↦ rw (le-ltb a b (omega arith)) (omega arith)
+]
 
 -- a number scaled to the slots is one of them
 pub scaled_below : (P x : ℕ) → 0 < P → x < 4294967296 → scaled P x < P

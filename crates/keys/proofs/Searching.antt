@@ -6,7 +6,7 @@ use native.Mathlib.Omega.{arith}
 use lib.Dec.{ltb}
 use borrow.Author.Count.{below_none, below_more}
 use Rattle.words.proofs.Cases.{less, same, more, tri}
-use Rattle.keys.specs.Keys.{mixed, home, stride, strides, further, probe, slot_word, Taken, Keys, Searched}
+use Rattle.keys.specs.Keys.{mixed, home, stride, strides, further, probe, slot_word, Taken, Keys, Absent, Open}
 use Rattle.keys.proofs.Probing.{step_le, probe_below, probe_after, reach, taken_all}
 
 -- a slot that is taken, by another key
@@ -50,35 +50,25 @@ module _ (W : ℕ → ℕ) (P count key : ℕ) (K : Keys W P count) (some : 0 < 
       held_le = rw held-is (K.held s slot_below)
 
       -- nothing: the key is not in the set
-      pub probe_free : held ≡ 0 → Searched W P count key count s
-      probe_free none = record {
-        index_is = record {
-          within = omega arith;
-          here = λ l. absurd (omega arith);
-          absent = λ _ i l q.
-              let p = K.placed i l in
-              let holds : W (slot_word P key p.distance) ≡ i + 1 = subst (λ (k : ℕ). W (slot_word P k p.distance) ≡ i + 1) q p.holds in
-              let before : Taken W P key p.distance = subst (λ (k : ℕ). Taken W P k p.distance) q p.path in
-              elim (tri p.distance d) [
-                | less m ↦ let j : i + 1 - 1 ≡ i = omega arith in (B.passed p.distance m).1 (ap (λ (x : ℕ). W (x - 1)) holds ∙ ap W j ∙ q)
-                | same m ↦ let z : W (slot_word P key p.distance) ≡ 0 = ap (λ (x : ℕ). W (slot_word P key x)) m ∙ sym at_slot ∙ sym held-is ∙ none in omega arith
-                | more m ↦ before d m (sym at_slot ∙ sym held-is ∙ none)
-              ];
-        };
-        opens = λ _ _. record { distance = d; near = turn; slot_is = B.slot_is; free = sym held-is ∙ none; path = λ c l. (B.passed c l).0 };
-      }
+      pub probe_free : held ≡ 0 → Absent W count key × (count < P → Open W P key s)
+      probe_free none = (
+        λ i l q.
+            let p = K.placed i l in
+            let holds : W (slot_word P key p.distance) ≡ i + 1 = subst (λ (k : ℕ). W (slot_word P k p.distance) ≡ i + 1) q p.holds in
+            let before : Taken W P key p.distance = subst (λ (k : ℕ). Taken W P k p.distance) q p.path in
+            elim (tri p.distance d) [
+              | less m ↦ let j : i + 1 - 1 ≡ i = omega arith in (B.passed p.distance m).1 (ap (λ (x : ℕ). W (x - 1)) holds ∙ ap W j ∙ q)
+              | same m ↦ let z : W (slot_word P key p.distance) ≡ 0 = ap (λ (x : ℕ). W (slot_word P key x)) m ∙ sym at_slot ∙ sym held-is ∙ none in omega arith
+              | more m ↦ before d m (sym at_slot ∙ sym held-is ∙ none)
+            ],
+        λ _. record { distance = d; near = turn; slot_is = B.slot_is; free = sym held-is ∙ none; path = λ c l. (B.passed c l).0 },
+      )
 
       -- the index of a key
       module _ (n : held ≡ 0 → ⊥) (k : ℕ) (k-is : k ≡ W (held - 1)) where
         -- ... of this one
-        pub probe_here : k ≡ key → Searched W P count key (held - 1) s
-        probe_here e =
-            let l = held_le in
-            let q : held - 1 < count = omega (arith, n) in
-            record {
-              index_is = record { within = omega arith; here = λ _. sym k-is ∙ e; absent = λ r. absurd (omega arith) };
-              opens = λ r. absurd (omega arith);
-            }
+        pub probe_here : k ≡ key → (held - 1 < count) × (W (held - 1) ≡ key)
+        probe_here e = let l = held_le in (omega (arith, n), sym k-is ∙ e)
 
         -- ... of another
         pub probe_next : (k ≡ key → ⊥) → (x b g : ℕ) → x ≡ mixed key → b ≡ stride P x → g ≡ strides P → (j : ℕ) → j ≡ cond (ltb d g) b 1 → (t : ℕ) → t ≡ further P s j → Probe W P key (d + 1) t
@@ -99,16 +89,12 @@ module _ (W : ℕ → ℕ) (P count key : ℕ) (K : Keys W P count) (some : 0 < 
             let r = reach P key t l in
             (B.passed r.distance (omega (arith, r.near))).0 (rw r.there e)
 
-    pub probe_round : Searched W P count key count s
-    probe_round = record {
-      index_is = record {
-        within = omega arith;
-        here = λ l. absurd (omega arith);
-        absent = λ _ i l q.
-            let p = K.placed i l in
-            let holds : W (slot_word P key p.distance) ≡ i + 1 = subst (λ (k : ℕ). W (slot_word P k p.distance) ≡ i + 1) q p.holds in
-            let j : i + 1 - 1 ≡ i = omega arith in
-            (B.passed p.distance (omega (arith, p.near))).1 (ap (λ (x : ℕ). W (x - 1)) holds ∙ ap W j ∙ q);
-      };
-      opens = λ _ l. absurd (omega (arith, full));
-    }
+    pub probe_round : Absent W count key × (count < P → Open W P key s)
+    probe_round = (
+      λ i l q.
+          let p = K.placed i l in
+          let holds : W (slot_word P key p.distance) ≡ i + 1 = subst (λ (k : ℕ). W (slot_word P k p.distance) ≡ i + 1) q p.holds in
+          let j : i + 1 - 1 ≡ i = omega arith in
+          (B.passed p.distance (omega (arith, p.near))).1 (ap (λ (x : ℕ). W (x - 1)) holds ∙ ap W j ∙ q),
+      λ l. absurd (omega (arith, full)),
+    )

@@ -1,5 +1,5 @@
 -- A set of keys in the words of lent memory, in order of insertion: key i is word i, and a hash table (open addressing) finds it. Of P places a region, words 0 to P - 1 are the keys and words 2 P to 3 P - 1 the slots. Assumes nothing.
-use Rattle.std.specs.Prelude.{ℕ, zero, suc, ◌+◌, ◌-◌, ◌*◌, ◌/◌, ◌%◌, ◌^◌, ◌≤◌, ◌<◌, ◌≡◌, cond, eqb, ltb}
+use Rattle.std.specs.Prelude.{ℕ, zero, suc, ◌+◌, ◌-◌, ◌*◌, ◌/◌, ◌%◌, ◌^◌, ◌≤◌, ◌<◌, ◌≡◌, cond, eqb, ltb, Result, Ok, Err}
 
 -- a key's digits to the base 2 ^ 17, mixed: each times an odd number, in all below 2 ^ 64
 unfoldable pub mixed : ℕ → ℕ
@@ -75,16 +75,10 @@ pub record Open (W : ℕ → ℕ) (P key slot : ℕ) : Type 0 where
   pub free : W (2 * P + slot) ≡ 0
   pub path : Taken W P key distance
 
--- the index of a key, or `count` if it is not in the set
-pub record IsIndex (W : ℕ → ℕ) (count key index : ℕ) : Type 0 where
-  pub within : index ≤ count
-  pub here : index < count → W index ≡ key
-  pub absent : index ≡ count → Absent W count key
-
--- ... with the slot at which the search ended, which is open to the key if it is not in the set and there is room
-pub record Searched (W : ℕ → ℕ) (P count key index slot : ℕ) : Type 0 where
-  pub index_is : IsIndex W count key index
-  pub opens : index ≡ count → count < P → Open W P key slot
+-- the index of a key, or, if it is not in the set, the slot at which its search ended, which is open to it if there is room
+abbrev pub Searched : (ℕ → ℕ) → ℕ → ℕ → ℕ → Result ℕ ℕ → Type 0
+Searched W P count key (Ok index) = (index < count) × (W index ≡ key)
+Searched W P count key (Err slot) = Absent W count key × (count < P → Open W P key slot)
 
 -- the set with one key more, the words of the other two regions and past the four as before
 pub record Inserted (W W' : ℕ → ℕ) (P count key : ℕ) : Type 0 where

@@ -1,17 +1,11 @@
 // A set of keys in lent memory: insert only, in order of insertion, found by a hash table (open addressing, double hashing).
 // The memory has regions of p places. Key i is word i; slot s is word 2 p + s and holds 0 if it is free, or 1 + the index of a key.
+// (`sheet` and `p` stay two parameters. Tried here as a struct of the lent slice and p, with methods: it proves, but is no plainer. Each contract then writes `self.old.words.now` for `sheet.old`, and each function that stores must say that p stays.)
 #![tactic(auto)]
 
 ghost use Rattle.std.specs.Prelude.{◌≡◌, cond, ◌+◌, ◌*◌, ◌≤◌, ◌<◌, ◌^◌, ltb, length};
 ghost use Rattle.words.specs.Words.{word_at};
 ghost use Rattle.keys.specs.Keys.{mixed, homes, scaled, home, stride, strides, further, Keys, Absent, Open, Searched, Inserted, Cleared};
-
-// The index of a key, and the slot at which its search ended.
-#[derive(Clone, Copy)]
-pub struct Place {
-    pub index: usize,
-    pub slot: usize,
-}
 
 // The digits of a key, mixed.
 fn mixed_of(key: u64) -> u64
@@ -25,10 +19,7 @@ fn mixed_of(key: u64) -> u64
 fn homes_of(p: usize) -> u64
     ensures { (result ≡ homes p) × (result ≤ 2 ^ 32) }
 {
-    if p < 4294967296 {
-        return p as u64;
-    }
-    4294967296
+    (p as u64).min(4294967296)
 }
 
 // A number below 2 ^ 32, scaled to them: there is no division by p.
@@ -58,20 +49,14 @@ fn stride_of(p: usize, mix: u64) -> usize
 fn strides_of(p: usize) -> usize
     ensures { (result ≡ strides p) × (result ≤ 1024) }
 {
-    if p < 1024 {
-        return p;
-    }
-    1024
+    p.min(1024)
 }
 
 // By how much the search goes on after slot number d.
 fn step_of(by: usize, d: usize, turns: usize) -> usize
     ensures { result ≡ cond (ltb d turns) by 1 }
 {
-    if d < turns {
-        return by;
-    }
-    1
+    if d < turns { by } else { 1 }
 }
 
 // The slot that lies so much further on than slot s, the first one after the last.
@@ -80,10 +65,7 @@ fn slot_after(s: usize, step: usize, p: usize) -> usize
     ensures { result ≡ further p s step }
 {
     let next = s + step;
-    if next < p {
-        return next;
-    }
-    next - p
+    if next < p { next } else { next - p }
 }
 
 // Frees all slots: the set is empty.
@@ -92,36 +74,30 @@ pub fn clear(sheet: &mut [u8], p: usize)
     ensures { (length sheet.new ≡ length sheet.old)
         × Cleared (word_at sheet.old) (word_at sheet.new) p }
 {
-    let mut s = 0;
-    while s < p {
-        words::put_word(sheet, 2 * p + s, 0);
-        s += 1;
-    }
+    sheet[16 * p..24 * p].fill(0);
 }
 
-// Searches for a key.
-pub fn search(sheet: &[u8], p: usize, count: usize, key: u64) -> Place
+// Searches for a key: its index, or the slot at which the search ended, as the library's binary_search answers.
+pub fn search(sheet: &[u8], p: usize, count: usize, key: u64) -> Result<usize, usize>
     requires { (0 < p) × (32 * p ≤ length sheet.now) × (key < 2 ^ 34) × Keys (word_at sheet.now) p count }
-    ensures { Searched (word_at sheet.now) p count key result.index result.slot }
+    ensures { Searched (word_at sheet.now) p count key result }
 {
     let mix = mixed_of(key);
     let by = stride_of(p, mix);
     let turns = strides_of(p);
     let mut slot = home_of(p, mix);
-    let mut d = 0;
-    while d < p + turns {
+    for d in 0..p + turns {
         let held = words::word_at(sheet, 2 * p + slot);
         if held == 0 {
-            return Place { index: count, slot };
+            return Err(slot);
         }
         let index = (held - 1) as usize;
         if words::word_at(sheet, index) == key {
-            return Place { index, slot };
+            return Ok(index);
         }
         slot = slot_after(slot, step_of(by, d, turns), p);
-        d += 1;
     }
-    Place { index: count, slot }
+    Err(slot)
 }
 
 // Inserts a key that is not in the set, at the slot at which its search ended.

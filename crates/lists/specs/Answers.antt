@@ -1,11 +1,9 @@
 -- The number, the place and the value of each case of the answer about a list. Assumes nothing.
-use Rattle.std.specs.Prelude.{ℕ}
-use Rattle.diagram.specs.Answer.{Answer, value, refusal}
-use Rattle.rules.specs.Refusals.{number_of, place_of}
-use Rattle.lists.specs.declared.Listed.{Listed}
-use Rattle.lists.specs.declared.Listed.TheVariants.{Items, Refused}
+use Rattle.std.specs.Prelude.{ℕ, Result}
+use Rattle.diagram.specs.Answer.{Answer}
+use Rattle.rules.specs.declared.Refusal.{Refusal}
+use Rattle.rules.specs.Refusals.{answer_as}
 
 -- how many setups were written
-abbrev pub listed_as : Listed → Answer ℕ
-listed_as (Items m) = value m
-listed_as (Refused r) = refusal (number_of r) (place_of r)
+abbrev pub listed_as : Result ℕ Refusal → Answer ℕ
+listed_as a = answer_as (λ m. m) a

@@ -14,15 +14,9 @@ ghost use Rattle.lists.specs.Answers.{listed_as};
 ghost use Rattle.lists.specs.Operations.{items, setup_at, unrank_items, unranking_list, setups_by, setups_after};
 ghost use Rattle.lists.specs.Inner.{Rising};
 
-use checking::Checked;
-use diagram::{Edge, Rank, Setup};
-use rules::{Item, Refusal, Verdict};
-
-#[derive(Clone, Copy)]
-pub enum Listed {
-    Items(usize),
-    Refused(Refusal),
-}
+use diagram::{Edge, Rank};
+use rules::{Item, Refusal};
+use trail::Path;
 
 // Writes the setups of the first m ranks, which never fall and all have one.
 fn write_setups(
@@ -38,17 +32,11 @@ fn write_setups(
         × ((i : ℕ) → i < m → word_at ranks.now i < count_below (under (word_at table.now) root.value) (2 ^ n)) }
     ensures { setups.new ≡ words_over (setup_at (word_at ranks.now) n (under (word_at table.now) root.value)) m setups.old }
 {
-    let mut edges = [0u64; 64];
-    let mut ends = [0u64; 64];
-    edges[n as usize] = root.value;
-    ends[n as usize] = counting::count_under(sheet, root, n);
-    let mut x = Setup(0);
-    let mut i = 0;
-    while i < m {
+    let mut path = Path::at(n, root, counting::count_under(sheet, root, n));
+    for i in 0..m {
         let r = Rank(words::word_at(ranks, i));
-        x = trail::next_setup(table, sheet, &mut edges, &mut ends, r, x);
+        let x = path.next_setup(table, sheet, r);
         words::put_word(setups, i, x.0);
-        i += 1;
     }
 }
 
@@ -61,7 +49,7 @@ fn unrank_items(
     nodes: usize,
     e: Edge,
     setups: &mut [u8],
-) -> Listed
+) -> Result<usize, Refusal>
     requires { Countable table.now sheet.old n nodes e.value }
     ensures { (listed_as result ≡ unrank_items ranks.now (items setups.old) n (under (word_at table.now) e.value))
         × (setups.new ≡ setups_by (word_at ranks.now) n (under (word_at table.now) e.value) (listed_as result) setups.old)
@@ -69,33 +57,31 @@ fn unrank_items(
 {
     let m = ranks.len() / 8;
     if setups.len() / 8 < m {
-        return Listed::Refused(Refusal::ShortList);
+        return Err(Refusal::ShortList);
     }
-    let rising = order::check_rising(ranks, m);
-    if let Verdict::Refused(r) = rising {
-        return Listed::Refused(r);
-    }
+    order::check_rising(ranks, m)?;
     counting::fill(table, sheet, n, nodes);
     let c = counting::count_under(sheet, e, n);
     let fine = order::count_below(ranks, m, c);
     if fine < m {
-        return Listed::Refused(Refusal::ItemRange(Item(fine + 1)));
+        return Err(Refusal::ItemRange(Item(fine + 1)));
     }
     write_setups(table, sheet, n, e, ranks, m, setups);
-    Listed::Items(m)
+    Ok(m)
 }
 
 // Unranks a list of numbers: the setups are written to `setups`, each as unranking its number alone gives it.
-pub fn unrank_list(table: &[u8], ranks: &[u8], sheet: &mut [u8], setups: &mut [u8]) -> Listed
+pub fn unrank_list(
+    table: &[u8],
+    ranks: &[u8],
+    sheet: &mut [u8],
+    setups: &mut [u8],
+) -> Result<usize, Refusal>
     ensures { (listed_as result ≡ unranking_list table.now ranks.now sheet.old (items setups.old))
         × (sheet.new ≡ blank table.now sheet.old)
         × (setups.new ≡ setups_after table.now ranks.now sheet.old setups.old) }
 {
-    let checked = checking::begin(table, sheet);
-    let Checked::Table(_) = checked else {
-        return Listed::Refused(checking::refusal_of(checked));
-    };
-    let header = diagram::header_of(table);
+    let header = checking::begin(table, sheet)?;
     let listed = unrank_items(
         table,
         ranks,

@@ -5,21 +5,19 @@ ghost use Rattle.rules.specs.Refusals.{verdict_as};
 ghost use Rattle.lists.specs.Operations.{check_rising};
 ghost use Rattle.lists.specs.Inner.{Rising, Parted};
 
-use rules::{Item, Refusal, Verdict};
+use rules::{Item, Refusal};
 
 // Rule 17, of the first m ranks.
-pub fn check_rising(ranks: &[u8], m: usize) -> Verdict
+pub fn check_rising(ranks: &[u8], m: usize) -> Result<(), Refusal>
     requires { 8 * m ≤ length ranks.now }
     ensures { verdict_as result ≡ check_rising (word_at ranks.now) m }
 {
-    let mut i = 1;
-    while i < m {
+    for i in 1..m {
         if words::word_at(ranks, i) < words::word_at(ranks, i - 1) {
-            return Verdict::Refused(Refusal::Falls(Item(i + 1)));
+            return Err(Refusal::Falls(Item(i + 1)));
         }
-        i += 1;
     }
-    Verdict::Passed
+    Ok(())
 }
 
 // How many of the first m ranks, which never fall, are below c. (It looks from the end: where all are, at one of them.)
@@ -27,12 +25,10 @@ pub fn count_below(ranks: &[u8], m: usize, c: u64) -> usize
     requires { (8 * m ≤ length ranks.now) × Rising (word_at ranks.now) m }
     ensures { Parted (word_at ranks.now) m c result }
 {
-    let mut i = m;
-    while 0 < i {
-        if words::word_at(ranks, i - 1) < c {
-            return i;
+    for i in (0..m).rev() {
+        if words::word_at(ranks, i) < c {
+            return i + 1;
         }
-        i -= 1;
     }
     0
 }

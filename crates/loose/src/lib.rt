@@ -7,7 +7,7 @@ ghost use Rattle.rules.specs.Refusals.{verdict_as};
 ghost use Rattle.loose.specs.Rules.{astray, check_loose_record, check_loose_records};
 
 use diagram::{Edge, Node, Record};
-use rules::{Refusal, Verdict};
+use rules::Refusal;
 
 // Whether edge e of a record of height h leads to a node above N, or to one not below h. (A later record's height is read as it stands.)
 fn is_astray(table: &[u8], nodes: usize, h: u64, e: Edge) -> bool
@@ -15,10 +15,7 @@ fn is_astray(table: &[u8], nodes: usize, h: u64, e: Edge) -> bool
     ensures { result ≡ astray (word_at table.now) nodes h e.value }
 {
     let node = e.node();
-    if nodes < node.0 {
-        return true;
-    }
-    h <= diagram::height_at(table, node)
+    nodes < node.0 || h <= diagram::height_at(table, node)
 }
 
 // Whether one of a record's edges does.
@@ -26,39 +23,32 @@ fn has_astray(table: &[u8], nodes: usize, fields: Record) -> bool
     requires { 8 * nodes + 8 ≤ length table.now }
     ensures { result ≡ (astray (word_at table.now) nodes fields.height fields.high.value || astray (word_at table.now) nodes fields.height fields.low.value) }
 {
-    if is_astray(table, nodes, fields.height, fields.high) {
-        return true;
-    }
-    is_astray(table, nodes, fields.height, fields.low)
+    is_astray(table, nodes, fields.height, fields.high)
+        || is_astray(table, nodes, fields.height, fields.low)
 }
 
 // Rules 4 and 6, of record k.
-fn check_record(table: &[u8], n: u64, nodes: usize, k: Node) -> Verdict
+fn check_record(table: &[u8], n: u64, nodes: usize, k: Node) -> Result<(), Refusal>
     requires { (0 < k.0) × (k.0 ≤ nodes) × (8 * nodes + 8 ≤ length table.now) }
     ensures { verdict_as result ≡ check_loose_record (word_at table.now) n nodes k.0 }
 {
     let record = diagram::record_at(table, k);
     if faults::is_unfit(n, record.height) {
-        return Verdict::Refused(Refusal::Height(k));
+        return Err(Refusal::Height(k));
     }
     if has_astray(table, nodes, record) {
-        return Verdict::Refused(Refusal::Target(k));
+        return Err(Refusal::Target(k));
     }
-    Verdict::Passed
+    Ok(())
 }
 
 // Rules 4 and 6, of records 1 to N upward.
-pub fn check_records(table: &[u8], n: u64, nodes: usize) -> Verdict
+pub fn check_records(table: &[u8], n: u64, nodes: usize) -> Result<(), Refusal>
     requires { 8 * nodes + 8 ≤ length table.now }
     ensures { verdict_as result ≡ check_loose_records (word_at table.now) n nodes }
 {
-    let mut k = 0;
-    while k < nodes {
-        k += 1;
-        let verdict = check_record(table, n, nodes, Node(k));
-        let Verdict::Passed = verdict else {
-            return verdict;
-        };
+    for k in 0..nodes {
+        check_record(table, n, nodes, Node(k + 1))?;
     }
-    Verdict::Passed
+    Ok(())
 }

@@ -13,7 +13,7 @@ use Rattle.diagram.specs.Format.{Words, middle_field, low_field, then_edge, else
 use Rattle.diagram.specs.Ordered.{Ordered}
 use Rattle.diagram.specs.Reading.{HasFields}
 use Rattle.diagram.proofs.Paths.{side_lower}
-use Rattle.numbering.specs.Numbered.{Wanted, Marked}
+use Rattle.numbering.specs.Numbered.{Wanted}
 use Rattle.marking.specs.Marks.{Spread, MarkedBelow, left_out, passed_on}
 
 -- the nodes a and b that the record z of node v names, of fields h, t and e
@@ -42,30 +42,19 @@ pub record Marking (R W : Words) (M top v : ℕ) : Type 0 where
   pub leads : (k : ℕ) → v ≤ k → k < M → 0 < W (suc k) → (0 < W (then_edge R (suc k) / 2)) × (0 < W (else_edge R (suc k) / 2))
   pub wanted : Wanted R W M top
 
--- after the last node
-pub marking_end : (R W : Words) (M top v root : ℕ) → v ≤ 0 → top ≡ root / 2 → Marking R W M top v → Marked R W M root
-marking_end R W M top v root z e G = record {
-  marks = record {
-    sink = G.sink;
-    bits = G.bits;
-    closed = record { closed_then = λ k l i. (G.leads k (omega arith) l i).0; closed_else = λ k l i. (G.leads k (omega arith) l i).1 };
-  };
-  top = rw (← e) G.live;
-  wanted = rw (← e) G.wanted;
-}
-
 -- before the first: only the sink and `top` are marked
-pub marking_start : (R : Words) (s z s' : List ℕ) (M top : ℕ) → 8 * M + 8 ≤ length s → z ≡ words_over (λ _. 0) (M + 1) s → Spread (word_at z) (word_at s') 0 top → Marking R (word_at s') M top M
-marking_start R s z s' M top l p S = record {
+pub marking_start : (R : Words) (s z s' : List ℕ) (M last top : ℕ) → 8 * M + 8 ≤ length s → last ≡ M → z ≡ words_over (λ _. 0) (last + 1) s → Spread (word_at z) (word_at s') 0 top
+    → Marking R (word_at s') M top last
+marking_start R s z s' M last top l m p S = record {
   sink = let a = S.bits 0 (omega (arith, zeros 0 (omega arith))) in let b = S.first in omega arith;
-  bits = λ u m. S.bits u (omega (arith, zeros u m));
+  bits = λ u o. S.bits u (omega (arith, zeros u o));
   live = S.second;
-  leads = λ k a b. absurd (omega arith);
-  wanted = λ k m i. elim (S.only (suc k) i) [ inl q ↦ absurd (omega (arith, zeros (suc k) m)) | inr q ↦ elim q [ inl e ↦ absurd (omega arith) | inr e ↦ inl e ] ];
+  leads = λ k a b. absurd (omega (arith, m));
+  wanted = λ k o i. elim (S.only (suc k) i) [ inl q ↦ absurd (omega (arith, zeros (suc k) o)) | inr q ↦ elim q [ inl e ↦ absurd (omega arith) | inr e ↦ inl e ] ];
 }
   where
     zeros : (u : ℕ) → u ≤ M → word_at z u ≡ 0
-    zeros u m = ap (λ (x : List ℕ). word_at x u) p ∙ words_read (λ _. 0) (M + 1) s u (omega arith) (omega arith)
+    zeros u o = ap (λ (x : List ℕ). word_at x u) p ∙ words_read (λ _. 0) (last + 1) s u (omega (arith, m)) (omega (arith, m))
 
 -- one node down
 marking_next : (R : Words) (s s' : List ℕ) (n M top v : ℕ) → Ordered R n M → v < M → Marking R (word_at s) M top (suc v) → MarkedBelow R s s' (suc v) → Marking R (word_at s') M top v

@@ -5,9 +5,10 @@ ghost use Rattle.std.specs.Prelude.{◌≡◌, ◌+◌, ◌*◌, ◌/◌, ◌≤
 ghost use Rattle.words.specs.Words.{word_at};
 ghost use Rattle.diagram.specs.Ordered.{Ordered};
 ghost use Rattle.numbering.specs.Numbered.{Marked};
-ghost use Rattle.cutting.specs.Cut.{extended, Room};
+ghost use Rattle.cutting.specs.Behind.{words_of, last_of, Fits};
 ghost use Rattle.marking.specs.Marks.{Spread, MarkedBelow};
 
+use cutting::Extended;
 use diagram::{Edge, Node, Record};
 
 // Marks nodes a and b.
@@ -20,29 +21,26 @@ fn mark_two(map: &mut [u8], a: Node, b: Node)
 }
 
 // Marks the nodes that node v leads to, if v is marked.
-fn mark_below(table: &[u8], more: &[u64; 128], map: &mut [u8], n: usize, nodes: usize, v: Node)
-    requires { Room table.now map.old n nodes × Ordered (extended (word_at table.now) nodes more.now) n (nodes + n + n) × (0 < v.0) × (v.0 ≤ nodes + n + n) }
-    ensures { MarkedBelow (extended (word_at table.now) nodes more.now) map.old map.new v.0 }
+fn mark_below(cut: &Extended, map: &mut [u8], v: Node)
+    requires { Fits map.old cut.now × Ordered (words_of cut.now) cut.now.n (last_of cut.now) × (0 < v.0) × (v.0 ≤ last_of cut.now) }
+    ensures { MarkedBelow (words_of cut.now) map.old map.new v.0 }
 {
     if words::word_at(map, v.0) == 0 {
         return;
     }
-    let record = Record::of(cutting::word_in(table, more, nodes, v));
+    let record = Record::from(cut.word_in(v));
     mark_two(map, record.high.node(), record.low.node());
 }
 
 // Marks the sink, the root's node, and what they lead to.
-pub fn mark(table: &[u8], more: &[u64; 128], map: &mut [u8], n: usize, nodes: usize, root: Edge)
-    requires { Room table.now map.old n nodes × Ordered (extended (word_at table.now) nodes more.now) n (nodes + n + n) × (root.value / 2 ≤ nodes + n + n) }
-    ensures { Marked (extended (word_at table.now) nodes more.now) (word_at map.new) (nodes + n + n) root.value
-        × (length map.new ≡ length map.old) }
+pub fn mark(cut: &Extended, map: &mut [u8], root: Edge)
+    requires { Fits map.old cut.now × Ordered (words_of cut.now) cut.now.n (last_of cut.now) × (root.value / 2 ≤ last_of cut.now) }
+    ensures { Marked (words_of cut.now) (word_at map.new) (last_of cut.now) root.value × (length map.new ≡ length map.old) }
 {
-    let top = root.node().0;
-    let mut v = nodes + n + n;
-    words::blank(map, v + 1);
-    mark_two(map, Node(0), Node(top));
-    while 0 < v {
-        mark_below(table, more, map, n, nodes, Node(v));
-        v -= 1;
+    let last = cut.last();
+    words::blank(map, last + 1);
+    mark_two(map, Node(0), root.node());
+    for v in (1..=last).rev() {
+        mark_below(cut, map, Node(v));
     }
 }

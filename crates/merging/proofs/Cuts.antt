@@ -101,8 +101,8 @@ module _ (R : Words) (map : List ℕ) (n N c last p q r u word flag : ℕ) (b : 
       flag_low = K.flag_low;
     }
 
-    pub give_few : (8 * (N + n + n) + 8 ≤ length map) → (8 * u + 8 ≤ length map₁) × (flag < 2) × (c₁ < 268435454)
-    give_few l = (omega (arith, u-is, beyond.1, P.passing.reached.same_length), K.flag_low, few₁)
+    pub give_few : (8 * (N + n + n) + 8 ≤ length map) → (8 * u + 8 ≤ length map₁) × (c₁ < 268435454)
+    give_few l = (omega (arith, u-is, beyond.1, P.passing.reached.same_length), few₁)
 
     chosen : 0 < W₁ v → Chosen R W₁ n N p₁ q r v
     chosen k = record {

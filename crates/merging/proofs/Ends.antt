@@ -14,7 +14,7 @@ use Rattle.diagram.proofs.Paths.{height_le_settings}
 use Rattle.numbering.specs.Numbered.{Marks, KeepsOrder, Alike, AllNumbered}
 use Rattle.numbering.proofs.Finish.{start, all_numbered, alike_same, alike_trans}
 use Rattle.cutting.specs.Cut.{TwiceCut}
-use Rattle.merging.specs.Inner.{front, Done, in_table, in_cut, Merging, Limits, Reached, Passed}
+use Rattle.merging.specs.Inner.{front, Done, in_table, in_cut, Merging, Reached, Passed}
 use Rattle.merging.proofs.Lists.{Left, left_table, left_cut, place}
 use Rattle.merging.proofs.Merge.{few_records, high}
 use Rattle.merging.proofs.Levels.{same_front}
@@ -55,10 +55,6 @@ reached_first R map n N K = record {
     none u (in_table a) = omega arith
     none u (in_cut true a b) = omega arith
     none u (in_cut false a b) = omega arith
-
--- the levels are numbered: no cut has a next node
-pub end_limits : (R W : Words) (n N p q r limit : ℕ) → r ≡ q → n < q → Limits R W n N p q r limit
-end_limits R W n N p q r limit e l b i = absurd (omega (arith, same_front q r e b))
 
 module _ (R : Words) (map map₁ : List ℕ) (n N q r c last p : ℕ) (X : TwiceCut R n N) (settings : n ≤ 63) (nodes : N ≤ 65535) (e : r ≡ q) (l : n < q) where
   -- no new record is above the greatest word, so the table is numbered too

@@ -1,5 +1,5 @@
 -- The fronts of the cuts move. Assumes nothing.
-use Prim.Native.Nat.{ℕ, ◌+◌, ◌≤◌, ◌<◌}
+use Prim.Native.Nat.{ℕ, ◌≤◌, ◌<◌}
 use mathlib.Core.Path.{◌≡◌, refl, sym, subst}
 use mathlib.Core.Logic.{◌⊎◌, inl, inr}
 use mathlib.Core.Bool.{Bool, true, false, true≢false}
@@ -12,21 +12,6 @@ sides true true = inl refl
 sides false false = inl refl
 sides true false = inr true≢false
 sides false true = inr (λ e. true≢false (sym e))
-
--- a front moves
-pub moved_second : (q r : ℕ) → Moved q r q (r + 1) true
-moved_second q r = record { here = omega arith; there = λ o n. go o n; sum = omega arith }
-  where
-    go : (o : Bool) → (o ≡ true → ⊥) → front q (r + 1) o ≡ front q r o
-    go true n = absurd (n refl)
-    go false n = refl
-
-pub moved_first : (q r : ℕ) → Moved q r (q + 1) r false
-moved_first q r = record { here = omega arith; there = λ o n. go o n; sum = omega arith }
-  where
-    go : (o : Bool) → (o ≡ false → ⊥) → front (q + 1) r o ≡ front q r o
-    go true n = refl
-    go false n = absurd (n refl)
 
 -- what is done stays done when fronts move
 pub done_moves : {N n p q r p' q' r' u : ℕ} {b : Bool} → p ≤ p' → Moved q r q' r' b → Done N n p q r u → Done N n p' q' r' u

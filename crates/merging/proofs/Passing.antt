@@ -133,5 +133,8 @@ module _ (R : Words) (map₀ map : List ℕ) (n N limit p₀ q r c last p : ℕ)
           key = record { dead = λ k. absurd (omega (arith, live)); word_is = λ k. w; flag_is = λ k. sym P.even; flag_low = omega arith }
 
 -- behind the table's last node
-pub turn_end : (R : Words) (map₀ map : List ℕ) (n N limit p₀ q r c last p : ℕ) → Passing R map₀ map n N limit p₀ q r c last p → N < p → Passed R map₀ map n N limit p₀ q r c last p
-turn_end R map₀ map n N limit p₀ q r c last p T l = record { passing = T; above = λ i. absurd (omega arith) }
+pub turn_end : (R : Words) (map₀ map : List ℕ) (n N limit p₀ q r c last p : ℕ) → Passing R map₀ map n N limit p₀ q r c last p → N < p → Passed R map₀ map n N limit p₀ q r c last (N + 1)
+turn_end R map₀ map n N limit p₀ q r c last p T l = record {
+  passing = subst (Passing R map₀ map n N limit p₀ q r c last) (omega (arith, T.reached.merging.fronts.p_high)) T;
+  above = λ i. absurd (omega arith);
+}

@@ -1,5 +1,5 @@
 -- The counts of models, one after the other, in the terms of the code. Assumes nothing.
-use Prim.Native.Nat.{ℕ, ◌+◌, ◌*◌, ◌^◌, ◌≤◌, ◌<◌}
+use Prim.Native.Nat.{ℕ, ◌+◌, ◌^◌, ◌≤◌, ◌<◌}
 use mathlib.Core.Path.{◌≡◌, refl, sym, ap, ◌∙◌}
 use mathlib.Core.Bool.{Bool}
 use mathlib.Core.List.{List}
@@ -31,19 +31,11 @@ module _ {t s r : List ℕ} {n m : ℕ} (R : Rooted t s r n m) (i e c : ℕ) (l 
   pub model_counted : c ≡ count_below (models_of t r i) (2 ^ n)
   model_counted = c-is t (rw e-is (R.opens i l)) ∙ ap (λ (v : ℕ). count_below (under (word_at t) v) (2 ^ n)) e-is
 
--- a turn more: the index, and the high word
-pub next_index : {i m : ℕ} → i < m → m ≤ 64 → (i + 1 ≤ m) × (i + 1 < 18446744073709551616)
-next_index l few = (omega arith, omega arith)
-
-pub next_high : {i high high' : ℕ} → high ≤ i → high' ≤ high + 1 → high' ≤ i + 1
-next_high l q = omega arith
-
 -- none is added
-pub adds_none : (s r : List ℕ) (n : ℕ) → AddsUp s r n 0 0 0
+pub adds_none : (s r : List ℕ) (n : ℕ) → AddsUp s r n 0 0
 adds_none s r n t R = sym (sum_none n (models_of t r))
 
 -- one more is
-pub adds_next : (s r : List ℕ) (n i low high low' high' e c : ℕ) → AddsUp s r n i low high → e ≡ word_at r i → CountsUnder s e n c
-    → low' + 2 ^ 64 * high' ≡ low + 2 ^ 64 * high + c → AddsUp s r n (i + 1) low' high'
-adds_next s r n i low high low' high' e c A e-is c-is q t R =
+pub adds_next : (s r : List ℕ) (n i total total' e c : ℕ) → AddsUp s r n i total → e ≡ word_at r i → CountsUnder s e n c → total' ≡ total + c → AddsUp s r n (i + 1) total'
+adds_next s r n i total total' e c A e-is c-is q t R =
     omega (arith, q, A t (fewer R i (omega arith)), model_counted R i e c (omega arith) e-is c-is, sum_next n (models_of t r) i)

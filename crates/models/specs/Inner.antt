@@ -19,9 +19,9 @@ pub record Rooted (table sheet roots : List ℕ) (n m : ℕ) : Type 0 where
 abbrev pub RootedIn : List ℕ → List ℕ → ℕ → ℕ → Type 0
 RootedIn sheet roots n m = (table : List ℕ) × Rooted table sheet roots n m
 
--- low + 2 ^ 64 × high is the sum of the counts of the first m models, in whichever table they can be counted
-abbrev pub AddsUp : List ℕ → List ℕ → ℕ → ℕ → ℕ → ℕ → Type 0
-AddsUp sheet roots n m low high = (table : List ℕ) → Rooted table sheet roots n m → low + 2 ^ 64 * high ≡ sum_counts n (models_of table roots) m
+-- the counts of the first m models add up to `total`, in whichever table they can be counted
+abbrev pub AddsUp : List ℕ → List ℕ → ℕ → ℕ → ℕ → Type 0
+AddsUp sheet roots n m total = (table : List ℕ) → Rooted table sheet roots n m → total ≡ sum_counts n (models_of table roots) m
 
 -- number r lies in model i, at rank `left`: r less the counts of the models before it
 pub record LiesAt (table roots : List ℕ) (n m r i left : ℕ) : Type 0 where

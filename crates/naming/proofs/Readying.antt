@@ -1,18 +1,17 @@
 -- The pairs made ready, one by one. Assumes nothing.
 use Prim.Native.Nat.{ℕ, zero, suc, ◌+◌, ◌*◌, ◌/◌, ◌%◌, ◌<◌}
 use mathlib.Core.Path.{◌≡◌, refl, sym, ap, ap₂, subst, ◌∙◌}
-use mathlib.Core.Bool.{Bool, true, false}
+use mathlib.Core.Bool.{Bool, true, false, cond, not}
 use native.Mathlib.Omega.{arith}
 use lib.Dec.{eqb}
 use borrow.Author.Tests.{ne_eqb}
-use Rattle.words.proofs.Cases.{less, same, more, tri}
 use Rattle.words.proofs.Stores.{Updated}
 use Rattle.diagram.specs.Format.{Words}
 use Rattle.diagram.specs.Meaning.{flip}
 use Rattle.pairing.specs.Pairs.{first_edge, second_edge, pair_height}
 use Rattle.naming.specs.declared.Operation.{Operation}
 use Rattle.naming.specs.Combination.{names}
-use Rattle.naming.specs.Inner.{IsFlag, Ready, Readied, AllReady}
+use Rattle.naming.specs.Inner.{IsFlag, Readied}
 
 -- a sink permits if its flag is 0
 sink_permits : (a : ℕ) → eqb a 0 ≡ flip a true
@@ -25,13 +24,14 @@ module _ (op : Operation) (a b : ℕ) (r : Bool) (r-is : r ≡ names op (eqb a 0
   named_is : names op (flip a true) (flip b true) ≡ r
   named_is = sym (r-is ∙ ap₂ (names op) (sink_permits a) (sink_permits b))
 
-  pub flag_named : r ≡ true → IsFlag op a b 0
+  -- 0 if they are, or else 1
+  pub flag_is : (f : ℕ) → f ≡ cond (not r) 1 0 → IsFlag op a b f
   unfolding flip
-  flag_named e = record { low = omega arith; permits = sym (named_is ∙ e) }
-
-  pub flag_other : r ≡ false → IsFlag op a b 1
-  unfolding flip
-  flag_other e = record { low = omega arith; permits = sym (named_is ∙ e) }
+  flag_is f e = rw e (go r named_is)
+    where
+      go : (r : Bool) → names op (flip a true) (flip b true) ≡ r → IsFlag op a b (cond (not r) 1 0)
+      go true n = record { low = omega arith; permits = sym n }
+      go false n = record { low = omega arith; permits = sym n }
 
 module _ (op : Operation) (w v : Words) where
   -- one pair: its height is stored, and then a flag if that is 0
@@ -54,37 +54,4 @@ module _ (op : Operation) (w v : Words) where
         edge_stays = λ l. absurd (omega (arith, height_is));
       };
       others = λ k n m. Q.other k n ∙ U.other k m;
-    }
-
-  -- none yet, and one more
-  pub ready_none : (W : ℕ → ℕ) (P : ℕ) → AllReady op w v W W P 0
-  ready_none W P = record { ready = λ i l. absurd (omega arith); pairs = λ i l. refl; waiting = λ i l m. refl; second = λ i. refl }
-
-  module _ (W X W' : ℕ → ℕ) (P i : ℕ) (inside : i < P) (A : AllReady op w v W X P i) (R : Readied op w v X W' P i) where
-    -- this pair, read in the sheet as it was at first
-    this : Ready op w v W W' P i
-    this =
-        let e = A.pairs i inside in
-        record {
-          height_is = R.ready.height_is ∙ ap (pair_height w v) e;
-          flag_is = λ z. subst (λ (pair : ℕ). IsFlag op (first_edge pair % 2) (second_edge pair % 2) (W' (P + i))) e (R.ready.flag_is (ap (pair_height w v) e ∙ z));
-          edge_stays = λ l. R.ready.edge_stays (rw e l) ∙ A.waiting i (omega arith) inside;
-        }
-
-    earlier : (j : ℕ) → j < i → Ready op w v W W' P j
-    earlier j l =
-        let a = A.ready j l in
-        let s = R.others (P + j) (λ e. omega arith) (λ e. omega arith) in
-        record {
-          height_is = R.others (2 * P + j) (λ e. omega arith) (λ e. omega arith) ∙ a.height_is;
-          flag_is = λ z. rw s (a.flag_is z);
-          edge_stays = λ q. s ∙ a.edge_stays q;
-        }
-
-    pub ready_next : AllReady op w v W W' P (i + 1)
-    ready_next = record {
-      ready = λ j l. elim (tri j i) [ less q ↦ earlier j q | same q ↦ rw q this | more q ↦ absurd (omega arith) ];
-      pairs = λ j l. R.others j (λ e. omega arith) (λ e. omega arith) ∙ A.pairs j l;
-      waiting = λ j l m. R.others (P + j) (λ e. omega arith) (λ e. omega arith) ∙ A.waiting j (omega arith) m;
-      second = λ j. R.others (3 * P + j) (λ e. omega arith) (λ e. omega arith) ∙ A.second j;
     }

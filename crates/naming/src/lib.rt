@@ -1,4 +1,5 @@
 // What an operation on two tables names, and the pairs of edges made ready to be numbered.
+// (`sheet` and `p` stay two parameters: `keys` says why.)
 #![tactic(auto)]
 
 ghost use Rattle.std.specs.Prelude.{◌≡◌, ◌*◌, ◌≤◌, ◌<◌, length};
@@ -8,21 +9,23 @@ ghost use Rattle.naming.specs.Combination.{names};
 ghost use Rattle.naming.specs.Inner.{IsFlag, PairsWithin, Readied, AllReady};
 
 // What is made of two tables.
-#[derive(Clone, Copy)]
+#[derive(Clone, Copy, Debug, PartialEq, Eq)]
 pub enum Operation {
     Joined,
     Shared,
     Without,
 }
 
-// Whether the operation names a setup, by which tables permit it.
-fn named_by(op: Operation, first: bool, second: bool) -> bool
-    ensures { result ≡ names op first second }
-{
-    match op {
-        Operation::Joined => if first { true } else { second },
-        Operation::Shared => if first { second } else { false },
-        Operation::Without => if first { !second } else { false },
+impl Operation {
+    // Whether it names a setup, by which tables permit it.
+    fn names(self, first: bool, second: bool) -> bool
+        ensures { result ≡ names self first second }
+    {
+        match self {
+            Operation::Joined => first || second,
+            Operation::Shared => first && second,
+            Operation::Without => first && !second,
+        }
     }
 }
 
@@ -30,10 +33,7 @@ fn named_by(op: Operation, first: bool, second: bool) -> bool
 fn flag_of(op: Operation, a: u64, b: u64) -> u64
     ensures { IsFlag op a b result }
 {
-    if named_by(op, a == 0, b == 0) {
-        return 0;
-    }
-    1
+    u64::from(!op.names(a == 0, b == 0))
 }
 
 // Makes pair i ready to be numbered: its height, and the flag of two sinks.
@@ -64,9 +64,7 @@ pub fn ready_all(
     ensures { AllReady op (word_at table1.now) (word_at table2.now) (word_at sheet.old) (word_at sheet.new) p count
         × (length sheet.new ≡ length sheet.old) }
 {
-    let mut i = 0;
-    while i < count {
+    for i in 0..count {
         ready_pair(table1, table2, sheet, p, i, op);
-        i += 1;
     }
 }

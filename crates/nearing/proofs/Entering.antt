@@ -1,19 +1,19 @@
 -- The distances are entered node by node, in the terms of the code. Assumes nothing.
-use Prim.Native.Nat.{ℕ, zero, suc, ◌+◌, ◌-◌, ◌*◌, ◌/◌, ◌%◌, ◌≤◌, ◌<◌}
-use mathlib.Core.Path.{◌≡◌, sym, ap, subst, ◌∙◌}
-use mathlib.Core.Bool.{true, false}
+use Prim.Native.Nat.{ℕ, zero, suc, min, ◌+◌, ◌-◌, ◌*◌, ◌/◌, ◌%◌, ◌≤◌, ◌<◌}
+use mathlib.Core.Path.{◌≡◌, refl, sym, ap, subst, ◌∙◌}
+use mathlib.Core.Bool.{Bool, true, false, cond}
 use mathlib.Core.List.{List}
 use native.Mathlib.Omega.{arith}
 use lib.ListN.{length, get_or, set, length-set}
+use lib.Dec.{ltb}
 use lib.Seq.{get_or-set_same, get_or-set_other}
-use borrow.Author.Tests.{lt-ltb, le-ltb}
+use borrow.Author.Tests.{ltb-true, ltb-false}
 use Rattle.words.specs.Words.{word_at}
 use Rattle.words.proofs.Cases.{Tri, less, same, more, tri}
 use Rattle.diagram.specs.Format.{Words}
 use Rattle.diagram.specs.Meaning.{bit}
 use Rattle.diagram.specs.Count.{indicator}
 use Rattle.diagram.specs.Reading.{IsRecord, turn}
-use Rattle.diagram.proofs.CountLaws.{indicator_le}
 use Rattle.diagram.proofs.Paths.{tall_node}
 use Rattle.distances.proofs.Looking.{edge_few}
 use Rattle.walking.specs.Inner.{Forks}
@@ -22,17 +22,13 @@ use Rattle.nearing.specs.Inner.{lesser, HasBytes, IsFar, Filled, Next, Fillable}
 use Rattle.nearing.proofs.Far.{far_small, far_always, far_never, far_edge}
 
 -- the lesser cost, as the code chooses it
-pub lesser_on : (off on : ℕ) → on < off → on ≡ lesser off on
+pub lesser_min : (off on : ℕ) → min off on ≡ lesser off on
 unfolding lesser
-lesser_on off on l = rw (lt-ltb on off l)
-
-pub lesser_off : (off on : ℕ) → off ≤ on → off ≡ lesser off on
-unfolding lesser
-lesser_off off on l = rw (le-ltb on off l)
-
--- a setting is 1 or 0
-pub digit_le : (h x was : ℕ) → was ≡ indicator (bit h x) → was ≤ 1
-digit_le h x was q = omega (arith, q, indicator_le (bit h x))
+lesser_min off on = go (ltb on off) refl
+  where
+    go : (c : Bool) → ltb on off ≡ c → min off on ≡ cond c on off
+    go true q = let l = ltb-true on off q in omega arith
+    go false q = let l = ltb-false on off q in omega arith
 
 -- the bytes of the two sides of edge e, which lead to nodes before node k
 pub sides_bytes : (t s : List ℕ) (n x k e h high low : ℕ) → Filled t s x k → Forks t n e h high low → e / 2 ≤ k + 1 → HasBytes s high low
@@ -74,8 +70,8 @@ module _ (t s : List ℕ) (x k : ℕ) (N : Next t s x k) (h a c : ℕ) (r : IsRe
       far = λ i l. subst (IsFar w x i) (sym (before i (omega (arith, N.some)))) (N.below.far i l);
     }
 
-    pub edge_bytes : HasBytes s' high low × (e < length s') × (was ≤ 1)
-    edge_bytes = (sides_bytes t s' n x (k - 1) e h high low kept edge_forks (omega (arith, N.some)), omega (arith, N.room), digit_le h x was was-is)
+    pub edge_bytes : HasBytes s' high low × (e < length s')
+    edge_bytes = (sides_bytes t s' n x (k - 1) e h high low kept edge_forks (omega (arith, N.some)), omega (arith, N.room))
 
     pub edge_far : IsFar w x e (lesser (get_or s' low 0 + was) (get_or s' high 0 + (1 - was)))
     edge_far =

@@ -6,6 +6,7 @@ ghost use Rattle.std.specs.Prelude.{◌≡◌, ◌+◌, ◌-◌, ◌/◌, ◌≤
 ghost use Rattle.words.specs.Words.{word_at};
 ghost use Rattle.diagram.specs.Format.{height};
 ghost use Rattle.diagram.specs.Meaning.{under};
+ghost use Rattle.diagram.specs.Count.{indicator};
 ghost use Rattle.distances.specs.Inner.{Nearest};
 ghost use Rattle.nearing.specs.Inner.{lesser, HasBytes, Next, Fillable, Filled, Opens};
 
@@ -18,33 +19,28 @@ struct Costs {
     on: u8,
 }
 
-// The costs by the two sides of an edge, where the setting was on (1) or off (0).
-fn costs_of(sheet: &[u8], sides: Cofactors, was: u8) -> Costs
-    requires { HasBytes sheet.now sides.high.value sides.low.value × (was ≤ 1) }
-    ensures { (result.off ≡ get_or sheet.now sides.low.value 0 + was)
-        × (result.on ≡ get_or sheet.now sides.high.value 0 + (1 - was)) }
+// The costs by the two sides of an edge, by whether the setting was on. (By 1 less: `u8::from(!was)` takes an instruction a node more.)
+fn costs_of(sheet: &[u8], sides: Cofactors, was: bool) -> Costs
+    requires { HasBytes sheet.now sides.high.value sides.low.value }
+    ensures { (result.off ≡ get_or sheet.now sides.low.value 0 + indicator was)
+        × (result.on ≡ get_or sheet.now sides.high.value 0 + (1 - indicator was)) }
 {
     let low = sides.low.value as usize;
     let high = sides.high.value as usize;
     Costs {
-        off: sheet[low] + was,
-        on: sheet[high] + (1 - was),
+        off: sheet[low] + u8::from(was),
+        on: sheet[high] + (1 - u8::from(was)),
     }
 }
 
 // Enters the distance under edge e, from those under its sides.
-fn enter_edge(sheet: &mut [u8], e: Edge, sides: Cofactors, was: u8)
-    requires { HasBytes sheet.old sides.high.value sides.low.value × (e.value < length sheet.old) × (was ≤ 1) }
+fn enter_edge(sheet: &mut [u8], e: Edge, sides: Cofactors, was: bool)
+    requires { HasBytes sheet.old sides.high.value sides.low.value × (e.value < length sheet.old) }
     ensures { sheet.new ≡ set sheet.old e.value
-        (lesser (get_or sheet.old sides.low.value 0 + was) (get_or sheet.old sides.high.value 0 + (1 - was))) }
+        (lesser (get_or sheet.old sides.low.value 0 + indicator was) (get_or sheet.old sides.high.value 0 + (1 - indicator was))) }
 {
     let costs = costs_of(sheet, sides, was);
-    let i = e.value as usize;
-    let mut least = costs.off;
-    if costs.on < costs.off {
-        least = costs.on;
-    }
-    sheet[i] = least;
+    sheet[e.value as usize] = costs.off.min(costs.on);
 }
 
 // Enters the distances under the plain and the flagged edge to node k.
@@ -67,10 +63,8 @@ pub fn fill(table: &[u8], sheet: &mut [u8], n: u64, nodes: usize, x: Setup)
 {
     sheet[0] = 0;
     sheet[1] = 64;
-    let mut k = 0;
-    while k < nodes {
-        k += 1;
-        enter_node(table, sheet, Node(k), x);
+    for k in 0..nodes {
+        enter_node(table, sheet, Node(k + 1), x);
     }
 }
 

@@ -1,15 +1,14 @@
 -- The way of a setup that is not permitted, and the setups one setting off it, in the terms of the code. Assumes nothing.
 use Prim.Native.Nat.{ℕ, zero, suc, ◌+◌, ◌-◌, ◌/◌, ◌≤◌}
 use mathlib.Core.Path.{◌≡◌, refl, sym, ap, subst, ◌∙◌}
-use mathlib.Core.Logic.{◌≢◌}
 use mathlib.Core.Bool.{Bool, true, false, not, cond, true≢false}
 use mathlib.Core.List.{List}
 use native.Mathlib.Omega.{arith}
-use lib.Dec.{eqb}
+use Rattle.std.specs.Prelude.{Option, Some, None, IfSome}
 use Rattle.words.specs.Words.{word_at}
+use Rattle.diagram.specs.declared.Setup.{Setup}
 use Rattle.diagram.specs.Format.{Words, height}
 use Rattle.diagram.specs.Meaning.{bit, under}
-use Rattle.diagram.specs.Count.{indicator}
 use Rattle.diagram.specs.Reading.{Within}
 use Rattle.diagram.proofs.Paths.{under_always, under_never}
 use Rattle.walking.specs.Inner.{LiesIn, Forks}
@@ -19,20 +18,20 @@ use Rattle.distances.proofs.Distances.{dist_begins}
 use Rattle.distances.proofs.Near.{nearest_up, apart_up, apart_one, apart_node, keep_nearest, turn_nearest, turn_dist}
 use Rattle.distances.proofs.Looking.{edge_looks, side_looks}
 
--- the way of x is at edge e, which does not permit it. What is nearest from there on, one setting off, is nearest from the first edge on; if all from there on is two or more off, `best` is, unless it is x
-pub record Seeks (t : List ℕ) (first x e best : ℕ) : Type 0 where
+-- the way of x is at edge e, which does not permit it. What is nearest from there on, one setting off, is nearest from the first edge on; if all from there on is two or more off, `best` is, if there is one
+pub record Seeks (t : List ℕ) (first x e : ℕ) (best : Option Setup) : Type 0 where
   pub lies : LiesIn t e
   pub out : under (word_at t) e x ≡ false
   pub near : (y : ℕ) → Nearest (under (word_at t) e) (height (word_at t) (e / 2)) x y → distance (height (word_at t) (e / 2)) x y ≤ 1
       → Nearest (under (word_at t) first) (height (word_at t) (first / 2)) x y
-  pub apart : Apart (under (word_at t) e) (height (word_at t) (e / 2)) x 2 → best ≢ x → Nearest (under (word_at t) first) (height (word_at t) (first / 2)) x best
+  pub apart : Apart (under (word_at t) e) (height (word_at t) (e / 2)) x 2 → IfSome best (λ y. Nearest (under (word_at t) first) (height (word_at t) (first / 2)) x y.0)
 
 -- before the first node
-pub seeks_first : (t : List ℕ) (e x : ℕ) → LiesIn t e → under (word_at t) e x ≡ false → Seeks t e x e x
-seeks_first t e x L out = record { lies = L; out = out; near = λ y N l. N; apart = λ A q. absurd (q refl) }
+pub seeks_first : (t : List ℕ) (e x : ℕ) → LiesIn t e → under (word_at t) e x ≡ false → Seeks t e x e None
+seeks_first t e x L out = record { lies = L; out = out; near = λ y N l. N; apart = λ A. tt }
 
 -- at the sink: it is `never`
-pub seeks_last : (t : List ℕ) (first x e best : ℕ) → Seeks t first x e best → e / 2 ≡ 0 → best ≢ x → Nearest (under (word_at t) first) (height (word_at t) (first / 2)) x best
+pub seeks_last : (t : List ℕ) (first x e : ℕ) (best : Option Setup) → Seeks t first x e best → e / 2 ≡ 0 → IfSome best (λ y. Nearest (under (word_at t) first) (height (word_at t) (first / 2)) x y.0)
 seeks_last t first x e best K z =
     let w = word_at t in
     K.apart (λ y p. absurd (true≢false (sym p ∙ ap (λ (d : ℕ). under w d y) (never e z K.out) ∙ under_never w y)))
@@ -41,15 +40,6 @@ seeks_last t first x e best K z =
     never zero q out = absurd (true≢false (sym (under_always (word_at t) x) ∙ out))
     never (suc zero) q out = refl
     never (suc (suc d)) q out = absurd (omega arith)
-
--- whether a setting is on, as the code reads it
-pub on_as : (h x was : ℕ) → was ≡ indicator (bit h x) → eqb was 1 ≡ bit h x
-unfolding indicator
-on_as h x was q = ap (λ (d : ℕ). eqb d 1) q ∙ go (bit h x)
-  where
-    go : (b : Bool) → eqb (indicator b) 1 ≡ b
-    go true = refl
-    go false = refl
 
 -- a side lies in the diagram
 pub side_within : (t : List ℕ) (n e h high low : ℕ) → Forks t n e h high low → (b : Bool) (d : ℕ) → d ≡ cond b high low → Within t (d / 2)
@@ -64,7 +54,7 @@ below_two true c l = omega arith
 below_two false c l = omega arith
 
 -- at a node
-module _ (t : List ℕ) (first x e best : ℕ) (K : Seeks t first x e best) (h high low : ℕ) (S : Forks t K.lies.0 e h high low) where
+module _ (t : List ℕ) (first x e : ℕ) (best : Option Setup) (K : Seeks t first x e best) (h high low : ℕ) (S : Forks t K.lies.0 e h high low) where
   abbrev w : Words
   w = word_at t
 
@@ -120,12 +110,12 @@ module _ (t : List ℕ) (first x e best : ℕ) (K : Seeks t first x e best) (h h
         (near_turned 1 (by_code ∙ q) (apart_one (under w (side own)) (h - 1) x (side_looks S own) kept_out) (subst (λ (b : Bool). Chosen (not b) 1 1) (sym r ∙ on_is) (omega arith)))
 
     -- it is off: this one is kept for the case that none is found behind it
-    pub found_on : p ≡ true → on ≡ false → (y next : ℕ) → y ≡ set_at (not on) h x → next ≡ cond on high low → Seeks t first x next y
-    found_on q r y next y-is next_is = rw (as_kept next next_is, as_turned y y-is) record {
+    pub found_on : p ≡ true → on ≡ false → (y : Setup) (next : ℕ) → y.0 ≡ set_at (not on) h x → next ≡ cond on high low → Seeks t first x next (Some y)
+    found_on q r y next y-is next_is = rw (as_kept next next_is) record {
       lies = (K.lies.0, S.lies own);
       out = kept_out;
       near = near_kept 0 (λ z i. omega arith) (λ c l. subst (λ (b : Bool). Chosen b c (0 + 1)) (sym r ∙ on_is) (omega arith));
-      apart = λ A i. near_turned 2 (by_code ∙ q) (up_kept 2 A) (one_two other);
+      apart = λ A. subst (Nearest (under w first) (height w (first / 2)) x) (sym (as_turned y.0 y-is)) (near_turned 2 (by_code ∙ q) (up_kept 2 A) (one_two other));
     }
 
     -- not permitted so either

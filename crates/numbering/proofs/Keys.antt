@@ -1,17 +1,28 @@
 -- A node's new record, and what the node is given, in the terms of the code. Assumes nothing.
 use Prim.Native.Nat.{ℕ, zero, suc, ◌+◌, ◌-◌, ◌*◌, ◌/◌, ◌%◌, ◌≤◌, ◌<◌}
 use mathlib.Core.Path.{◌≡◌, refl, sym, ◌∙◌}
-use mathlib.Core.Bool.{true, false}
+use mathlib.Core.Bool.{Bool, true, false}
 use mathlib.Core.List.{List}
 use native.Mathlib.Omega.{arith}
+use lib.Dec.{eqb}
 use lib.ListN.{length}
+use Rattle.std.specs.Int.{from_bool}
 use Rattle.words.specs.Words.{word_at, put_word}
+use Rattle.words.proofs.Cases.{less, same, more, tri}
 use Rattle.diagram.specs.Format.{Words, middle_field, low_field, then_edge, else_edge}
 use Rattle.diagram.specs.Reading.{HasFields, turn, record_of}
 use Rattle.diagram.proofs.Paths.{side_node}
 use Rattle.numbering.specs.Renewal.{image, normal, renew, Renewable, StaysPlain, Readable, IsKey, Counted, same_record, new_record, given_edge, given_number, Gave, stored}
 use Rattle.numbering.specs.Numbered.{Keyed}
 use Rattle.numbering.proofs.Images.{image_small}
+
+-- a flag as a number
+pub flag_low : (f : Bool) → from_bool f < 2
+flag_low true = omega arith
+flag_low false = omega arith
+
+flag_number : (a : ℕ) → from_bool (eqb (a % 2) 1) ≡ a % 2
+flag_number a = elim (tri 1 (a % 2)) [ less q ↦ absurd (omega arith) | same q ↦ rw (← q) refl | more q ↦ let e : a % 2 ≡ 0 = omega arith in rw e refl ]
 
 -- the image of edge e to node k, where a plain one becomes a
 pub image_is : (W : Words) (e k a r : ℕ) → k ≡ e / 2 → a ≡ W k - 1 → r ≡ turn (e % 2) a → r ≡ image W e
@@ -65,12 +76,12 @@ module _ (map : List ℕ) (z h t e a b : ℕ) (N : Renewable map z) (F : HasFiel
   renew_is word q = q ∙ rw (a-is, b-is, F.high_is, F.middle_is, F.low_is)
 
   -- ... and the key of a node that is kept
-  pub key_is : (v word : ℕ) → 0 < W v → word ≡ normal h a b → IsKey W v z word (a % 2)
-  key_is v word live q = record {
+  pub key_is : (v word : ℕ) → 0 < W v → word ≡ normal h a b → (f : Bool) → f ≡ eqb (a % 2) 1 → IsKey W v z word (from_bool f)
+  key_is v word live q f f_is = record {
     dead = λ k. absurd (omega arith);
     word_is = λ k. renew_is word q;
-    flag_is = λ k. rw (a-is, F.middle_is);
-    flag_low = omega arith;
+    flag_is = λ k. rw f_is (flag_number a ∙ rw (a-is, F.middle_is));
+    flag_low = flag_low f;
   }
 
 -- the same where the then-edge stays plain, so that no flag is taken out
@@ -100,10 +111,6 @@ module _ (map : List ℕ) (z h t e k a b : ℕ) (N : Renewable map z) (P : Stays
 -- node v's place holds m: it is kept
 pub place_live : (map : List ℕ) (v m : ℕ) → m ≡ word_at map v → (m ≡ 0 → ⊥) → 0 < word_at map v
 place_live map v m m-is some = omega (arith, m-is, some)
-
--- or it is left out
-pub key_dead : (W : Words) (v z m : ℕ) → m ≡ W v → m ≡ 0 → IsKey W v z 0 0
-key_dead W v z m p q = record { dead = λ k. refl; word_is = λ k. absurd (omega arith); flag_is = λ k. absurd (omega arith); flag_low = omega arith }
 
 -- an edge of a record fits its field
 pub field_small : (word h t e : ℕ) → HasFields word h t e → t < 536870912

@@ -2,21 +2,23 @@
 #![tactic(auto)]
 
 ghost use Rattle.std.specs.Prelude.{◌≡◌, ◌+◌, ◌-◌, ◌*◌, ◌/◌, ◌≤◌, ◌<◌, length};
+ghost use Rattle.std.specs.Int.{from_bool};
 ghost use Rattle.words.specs.Words.{word_at};
 ghost use Rattle.diagram.specs.Format.{middle_field, low_field};
 ghost use Rattle.numbering.specs.Renewal.{image, normal, renew, Renewable, StaysPlain, Readable, IsKey, Counted, Gave};
 
 use diagram::{Edge, Node, Record};
 
-// What a node becomes: its new record, 0 if it is left out, and the flag taken out of it.
-#[derive(Clone, Copy)]
+// What a node becomes: its new record, 0 if it is left out, and whether a flag was taken out of it.
+// (No Option: words are compared, and 0 stands below all records.)
+#[derive(Clone, Copy, Debug, PartialEq, Eq)]
 pub struct Key {
     pub word: u64,
-    pub flag: u64,
+    pub flag: bool,
 }
 
 // How many new records there are, and the last of them.
-#[derive(Clone, Copy)]
+#[derive(Clone, Copy, Debug, PartialEq, Eq)]
 pub struct Tally {
     pub count: u64,
     pub last: u64,
@@ -28,13 +30,13 @@ impl Tally {
         requires { self.count < 268435454 }
         ensures { Counted word self.count self.last result.count result.last }
     {
-        let count = self.count;
         if word == self.last {
-            return self;
-        }
-        Tally {
-            count: count + 1,
-            last: word,
+            self
+        } else {
+            Tally {
+                count: self.count + 1,
+                last: word,
+            }
         }
     }
 }
@@ -44,8 +46,9 @@ pub fn edge_to(map: &[u8], v: Node) -> Edge
     requires { (8 * v.0 + 8 ≤ length map.now) × (0 < word_at map.now v.0) }
     ensures { result.value ≡ word_at map.now v.0 - 1 }
 {
-    let place = words::word_at(map, v.0);
-    Edge { value: place - 1 }
+    Edge {
+        value: words::word_at(map, v.0) - 1,
+    }
 }
 
 // What edge e becomes.
@@ -56,20 +59,18 @@ pub fn image_of(map: &[u8], e: Edge) -> Edge
     edge_to(map, e.node()).turned_by(e)
 }
 
-// What record `word` becomes, if its then-edge stays plain: no flag is taken out.
+// What record `word` becomes, if its then-edge stays plain: no flag is taken out. (Part-write's loops want it without the flags of key_of: docs/DECISIONS.md 35.)
 pub fn renew_plain(map: &[u8], word: u64) -> u64
     requires { Renewable map.now word × StaysPlain (word_at map.now) word }
     ensures { result ≡ renew (word_at map.now) word }
 {
-    let fields = Record::of(word);
-    let high = edge_to(map, fields.high.node());
-    let low = image_of(map, fields.low);
-    let renewed = Record {
-        height: fields.height,
-        high,
-        low,
-    };
-    renewed.word()
+    let Record { height, high, low } = Record::from(word);
+    Record {
+        height,
+        high: edge_to(map, high.node()),
+        low: image_of(map, low),
+    }
+    .word()
 }
 
 // The record of a height and edges `high` and `low`, with the flag of `high` taken out of both.
@@ -80,56 +81,56 @@ pub fn normal_word(height: u64, high: Edge, low: Edge) -> u64
     let plain = Edge {
         value: 2 * (high.value / 2),
     };
-    let turned = low.turned_by(high);
-    let fields = Record {
+    Record {
         height,
         high: plain,
-        low: turned,
-    };
-    fields.word()
+        low: low.turned_by(high),
+    }
+    .word()
 }
 
 // What node v, of record `word`, becomes.
 pub fn key_of(map: &[u8], v: Node, word: u64) -> Key
     requires { Readable map.now v.0 word }
-    ensures { IsKey (word_at map.now) v.0 word result.word result.flag }
+    ensures { IsKey (word_at map.now) v.0 word result.word (from_bool result.flag) }
 {
     if words::word_at(map, v.0) == 0 {
-        return Key { word: 0, flag: 0 };
+        return Key {
+            word: 0,
+            flag: false,
+        };
     }
-    let fields = Record::of(word);
+    let fields = Record::from(word);
     let high = image_of(map, fields.high);
     let low = image_of(map, fields.low);
     Key {
         word: normal_word(fields.height, high, low),
-        flag: high.value % 2,
+        flag: high.flagged(),
     }
 }
 
-// Gives node v, which becomes `key`, a record of different edges, the record's number: the next one, or the last if the record is the same.
+// Gives node v, which becomes `key`, a record of different edges, the record's number: the next one, or the last if the record is the same. (The end of `give`, whose tests a table's nodes do not need.)
 pub fn give_number(map: &mut [u8], v: Node, key: Key, tally: Tally) -> Tally
-    requires { (8 * v.0 + 8 ≤ length map.old) × (key.flag < 2) × (tally.count < 268435454)
+    requires { (8 * v.0 + 8 ≤ length map.old) × (tally.count < 268435454)
         × (key.word ≡ 0 → ⊥) × (middle_field key.word ≡ low_field key.word → ⊥) }
-    ensures { Gave map.old map.new v.0 key.word key.flag tally.count tally.last result.count result.last }
+    ensures { Gave map.old map.new v.0 key.word (from_bool key.flag) tally.count tally.last result.count result.last }
 {
     let on = tally.after(key.word);
-    words::put_word(map, v.0, 1 + 2 * on.count + key.flag);
+    words::put_word(map, v.0, 1 + 2 * on.count + u64::from(key.flag));
     on
 }
 
 // Gives node v, which becomes `key`, its place: none if it is left out, an edge if its edges are equal, or else its record's number.
 pub fn give(map: &mut [u8], v: Node, key: Key, tally: Tally) -> Tally
-    requires { (8 * v.0 + 8 ≤ length map.old) × (key.flag < 2) × (tally.count < 268435454) }
-    ensures { Gave map.old map.new v.0 key.word key.flag tally.count tally.last result.count result.last }
+    requires { (8 * v.0 + 8 ≤ length map.old) × (tally.count < 268435454) }
+    ensures { Gave map.old map.new v.0 key.word (from_bool key.flag) tally.count tally.last result.count result.last }
 {
-    let word = key.word;
-    if word == 0 {
+    if key.word == 0 {
         return tally;
     }
-    let fields = Record::of(word);
-    let t = fields.high.value;
-    if t == fields.low.value {
-        words::put_word(map, v.0, 1 + t + key.flag);
+    let Record { high, low, .. } = Record::from(key.word);
+    if high == low {
+        words::put_word(map, v.0, 1 + high.value + u64::from(key.flag));
         return tally;
     }
     give_number(map, v, key, tally)

@@ -1,6 +1,6 @@
 -- Pairs of edges that lie in their tables, and what they lead to. Assumes nothing.
-use Prim.Native.Nat.{ℕ, ◌+◌, ◌-◌, ◌*◌, ◌/◌, ◌%◌, ◌^◌, ◌≤◌, ◌<◌}
-use mathlib.Core.Path.{◌≡◌, sym, ap, ◌∙◌}
+use Prim.Native.Nat.{ℕ, ◌+◌, ◌-◌, ◌*◌, ◌/◌, ◌%◌, ◌^◌, ◌≤◌, ◌<◌, max}
+use mathlib.Core.Path.{◌≡◌, ap, ◌∙◌}
 use mathlib.Core.Bool.{Bool}
 use mathlib.Core.List.{List}
 use native.Mathlib.Omega.{arith}
@@ -27,6 +27,13 @@ greater_bound a b h p q = elim (tri a b) [
   | less l ↦ rw (greater_low a b l) q
   | same l ↦ rw (greater_high a b (omega arith)) p
   | more l ↦ rw (greater_high a b (omega arith)) p
+]
+
+pub greater_is : (a b : ℕ) → max a b ≡ greater a b
+greater_is a b = elim (tri a b) [
+  | less l ↦ rw (greater_low a b l) (omega arith)
+  | same l ↦ rw (greater_high a b (omega arith)) (omega arith)
+  | more l ↦ rw (greater_high a b (omega arith)) (omega arith)
 ]
 
 greater_least : (a b : ℕ) → (a ≤ greater a b) × (b ≤ greater a b)
@@ -146,13 +153,9 @@ module _ (t u : List ℕ) (pair : ℕ) (I : PairWithin t u pair) where
   second_room = within_room u (second_edge pair / 2) I.second
 
   module _ (x y : ℕ) (x-is : x ≡ height (word_at t) (pair / 131072 / 2)) (y-is : y ≡ height (word_at u) (pair % 131072 / 2)) where
-    pub second_higher : x < y → y ≡ pair_height (word_at t) (word_at u) pair
+    pub higher : max x y ≡ pair_height (word_at t) (word_at u) pair
     unfolding first_edge second_edge pair_height
-    second_higher l = sym (greater_low x y l) ∙ rw (x-is, y-is)
-
-    pub first_higher : y ≤ x → x ≡ pair_height (word_at t) (word_at u) pair
-    unfolding first_edge second_edge pair_height
-    first_higher l = sym (greater_high x y l) ∙ rw (x-is, y-is)
+    higher = greater_is x y ∙ rw (x-is, y-is)
 
 -- a node as high as the setting asked for is not the sink, and has its record
 pub high_node : (t : List ℕ) (e h v g : ℕ) → Within t (e / 2) → 0 < h → v ≡ e / 2 → g ≡ height (word_at t) v → h ≤ g → (0 < v) × (8 * v + 8 ≤ length t)

@@ -10,7 +10,7 @@ use Rattle.words.proofs.Cases.{less, same, more, tri}
 use Rattle.words.proofs.Stores.{Updated, update, update_is}
 use Rattle.diagram.specs.Format.{Words}
 use Rattle.diagram.proofs.Members.{Members, members_le}
-use Rattle.keys.specs.Keys.{Keys, Absent, Searched, Open, Inserted}
+use Rattle.keys.specs.Keys.{Keys, Absent, Inserted}
 use Rattle.keys.proofs.Inserting.{keys_agree}
 use Rattle.pairing.specs.Pairs.{pair_height, follow}
 use Rattle.pairing.specs.Inner.{PairWithin, Pass, Closed, EdgesPut, Kept, Done, Visited, Overfull}
@@ -51,79 +51,29 @@ kept_first W X P count pair room J i l = record {
 }
 
 module _ (t u : List ℕ) (W : ℕ → ℕ) (P count pair : ℕ) (K : Keys W P count) (I : PairWithin t u pair) where
-  module _ (index slot : ℕ) (S : Searched W P count pair index slot) where
-    -- it is found
-    pub already : index < count → Visited t u W W P count pair index count
-    already l = record {
-      keys = K;
-      up = omega arith;
-      early = omega arith;
-      there = l;
-      here = S.index_is.here l;
-      kept = λ i q. record { pair_kept = refl; then_kept = refl; else_kept = refl };
-      done = λ i a b. absurd (omega arith);
-      passes = λ R C p i a b. absurd (omega arith);
-    }
+  -- P pairs, and one more
+  pub overfull : Absent W count pair → count ≡ P → Overfull (word_at t) (word_at u) W P count pair
+  overfull absent e R C p q = omega (arith, members_le f R (2 ^ 34) (count + 1) m)
+    where
+      f : ℕ → ℕ
+      f = update W count pair
 
-    module _ (l : count ≤ index) where
-      -- it is not found
-      at_end : index ≡ count
-      at_end = omega (arith, S.index_is.within)
+      here : f count ≡ pair
+      here = (update_is W count pair).here
 
-      pub absent : Absent W count pair
-      absent = S.index_is.absent at_end
+      old : (i : ℕ) → i < count → f i ≡ W i
+      old i l = (update_is W count pair).other i (λ e. omega arith)
 
-      module _ (n : count ≡ P → ⊥) where
-        -- there is room for it
-        pub room_left : count < P
-        room_left = omega (arith, n, K.few)
-
-        pub opened : Open W P pair slot
-        opened = S.opens at_end room_left
-
-      -- P pairs, and one more
-      pub overfull : count ≡ P → Overfull (word_at t) (word_at u) W P count pair
-      overfull e R C p q = omega (arith, members_le f R (2 ^ 34) (count + 1) m)
-        where
-          f : ℕ → ℕ
-          f = update W count pair
-
-          here : f count ≡ pair
-          here = (update_is W count pair).here
-
-          old : (i : ℕ) → i < count → f i ≡ W i
-          old i l = (update_is W count pair).other i (λ e. omega arith)
-
-          m : Members f R (2 ^ 34) (count + 1)
-          m = record {
-            small = below_more (λ i. f i < 2 ^ 34) count (λ i l. rw (old i l) (K.small i l)) (rw here (pair_small t u pair I));
-            pass = below_more (λ i. R (f i) ≡ true) count (λ i l. ap R (old i l) ∙ q i l) (ap R here ∙ p);
-            distinct = λ i j a b. below_more (λ i. f i ≡ f j → i ≡ j) count
-                (λ i l. below_more (λ j. f i ≡ f j → i ≡ j) count
-                (λ j m e. K.distinct i j l m (sym (old i l) ∙ e ∙ old j m))
-                (λ e. absurd (absent i l (sym (old i l) ∙ e ∙ here))) j b)
-                (below_more (λ j. f count ≡ f j → count ≡ j) count (λ j m e. absurd (absent j m (sym (old j m) ∙ sym e ∙ here))) (λ e. refl) j b) i a;
-          }
-
-  module _ (X : ℕ → ℕ) (room : count < P) (J : Inserted W X P count pair) where
-    -- it is inserted, and leads nowhere
-    pub leaf : pair_height (word_at t) (word_at u) pair ≡ 0 → Visited t u W X P count pair count (count + 1)
-    leaf low = record {
-      keys = J.keys;
-      up = omega arith;
-      early = omega arith;
-      there = omega arith;
-      here = J.here;
-      kept = kept_first W X P count pair room J;
-      done = λ i a b. only (Done t u X P (count + 1)) (record {
-        inside = rw J.here I;
-        leads = λ on l. absurd (omega (arith, low, ap (pair_height (word_at t) (word_at u)) J.here));
-      }) i a b;
-      passes = λ R C p i a b. only (λ i. R (X i) ≡ true) (ap R J.here ∙ p) i a b;
-    }
-      where
-        only : (A : ℕ → Type 0) → A count → (i : ℕ) → count ≤ i → i < count + 1 → A i
-        only A g i a b = let e : count ≡ i = omega arith in subst A e g
+      m : Members f R (2 ^ 34) (count + 1)
+      m = record {
+        small = below_more (λ i. f i < 2 ^ 34) count (λ i l. rw (old i l) (K.small i l)) (rw here (pair_small t u pair I));
+        pass = below_more (λ i. R (f i) ≡ true) count (λ i l. ap R (old i l) ∙ q i l) (ap R here ∙ p);
+        distinct = λ i j a b. below_more (λ i. f i ≡ f j → i ≡ j) count
+            (λ i l. below_more (λ j. f i ≡ f j → i ≡ j) count
+            (λ j m e. K.distinct i j l m (sym (old i l) ∙ e ∙ old j m))
+            (λ e. absurd (absent i l (sym (old i l) ∙ e ∙ here))) j b)
+            (below_more (λ j. f count ≡ f j → count ≡ j) count (λ j m e. absurd (absent j m (sym (old j m) ∙ sym e ∙ here))) (λ e. refl) j b) i a;
+      }
 
 -- a pair that was inserted, and leads to x and y
 pub record Branch (t u : List ℕ) (W X : ℕ → ℕ) (P count pair h x y : ℕ) : Type 0 where
@@ -170,10 +120,6 @@ module _ (t u : List ℕ) (W X : ℕ → ℕ) (P count pair h x y : ℕ) (N : Br
 
   passes_low : (R : ℕ → Bool) → Closed w v R → R pair ≡ true → R y ≡ true
   passes_low R C p = ap R N.low_is ∙ C pair p tall false
-
-  -- there is no room for what came with x, or with y
-  pub no_first : Overfull w v X P (count + 1) x → Overfull w v W P count pair
-  no_first f R C p q = f R C (passes_high R C p) (passes_first R p q)
 
   module _ (Y : ℕ → ℕ) (i1 c1 : ℕ) (A : Visited t u X Y P (count + 1) x i1 c1) where
     pub no_second : Overfull w v Y P c1 y → Overfull w v W P count pair

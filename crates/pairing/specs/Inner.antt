@@ -1,15 +1,11 @@
 -- What is known while the pairs are found, and of all of them: for inner contracts and laws only. Assumes nothing.
-use Rattle.std.specs.Prelude.{ℕ, ◌+◌, ◌*◌, ◌/◌, ◌^◌, ◌≤◌, ◌<◌, ◌≡◌, Bool, true, cond, List}
+use Rattle.std.specs.Prelude.{ℕ, ◌+◌, ◌*◌, ◌/◌, ◌^◌, ◌≤◌, ◌<◌, ◌≡◌, Bool, true, cond, List, Option, Some, None}
 use Rattle.words.specs.Words.{word_at}
 use Rattle.keys.specs.Keys.{Keys}
 use Rattle.diagram.specs.Format.{Words}
 use Rattle.diagram.specs.Meaning.{under}
 use Rattle.diagram.specs.Count.{count_below}
 use Rattle.diagram.specs.Reading.{Within}
-use Rattle.pairing.specs.declared.Found.{Found}
-use Rattle.pairing.specs.declared.Found.TheVariants as found
-use Rattle.pairing.specs.declared.Arrival.{Arrival}
-use Rattle.pairing.specs.declared.Arrival.TheVariants as arrival
 use Rattle.pairing.specs.Pairs.{pair_of, first_edge, second_edge, pair_height, follow, reached, pair_count}
 
 -- both edges of a pair lie in their tables
@@ -70,9 +66,9 @@ abbrev pub Overfull : Words → Words → (ℕ → ℕ) → ℕ → ℕ → ℕ 
 Overfull w v W P count pair = (R : ℕ → Bool) → Closed w v R → R pair ≡ true → Pass R W count → P < count_below R (2 ^ 34)
 
 -- by cases: a pair's index and the number of pairs, or more than there is room for
-abbrev pub Arrives : (ℕ → ℕ → Type 0) → Type 0 → Arrival → Type 0
-Arrives at full (arrival.At index count) = at index count
-Arrives at full arrival.Full = full
+abbrev pub Arrives : (ℕ → ℕ → Type 0) → Type 0 → Option (ℕ × ℕ) → Type 0
+Arrives at full (Some x) = at x.0 x.1
+Arrives at full None = full
 
 -- the first `count` words are the pairs that the root edges a and b lead to, each once, and the edges between them are stored
 pub record AllPairs (t u : List ℕ) (n a b : ℕ) (W : ℕ → ℕ) (P count : ℕ) : Type 0 where
@@ -87,6 +83,6 @@ pub record AllPairs (t u : List ℕ) (n a b : ℕ) (W : ℕ → ℕ) (P count : 
   pub leads : (on : Bool) (i : ℕ) → i < count → 0 < pair_height (word_at t) (word_at u) (W i) → LeadsOn (word_at t) (word_at u) W P count on i
 
 -- by cases: the number of pairs, or more than there is room for
-abbrev pub Outcome : (ℕ → Type 0) → Type 0 → Found → Type 0
-Outcome all full (found.All count) = all count
-Outcome all full found.Full = full
+abbrev pub Outcome : (ℕ → Type 0) → Type 0 → Option ℕ → Type 0
+Outcome all full (Some count) = all count
+Outcome all full None = full

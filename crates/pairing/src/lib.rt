@@ -1,5 +1,6 @@
 // The pairs of edges that two tables lead to from their root edges.
 // The pair sheet has four regions of p places: pair i is word i, the edge to its then-pair word p + i, to its else-pair word 3 p + i, and the slots of the set of pairs lie at 2 p. An edge to pair j is 2 j.
+// (`sheet` and `p` stay two parameters: `keys` says why.)
 #![tactic(auto)]
 
 ghost use Rattle.std.specs.Prelude.{◌≡◌, true, false, ◌+◌, ◌*◌, ◌/◌, ◌≤◌, ◌<◌, length};
@@ -13,22 +14,8 @@ ghost use Rattle.pairing.specs.Inner.{PairWithin, EdgesPut, Visited, Overfull, A
 
 use diagram::{Cofactors, Edge, Node};
 
-// How many pairs there are, or that there is no room for them.
-#[derive(Clone, Copy)]
-pub enum Found {
-    All(usize),
-    Full,
-}
-
-// A pair's index and how many pairs there are then, or that there is no room.
-#[derive(Clone, Copy)]
-enum Arrival {
-    At(usize, usize),
-    Full,
-}
-
 // What a pair leads to with the setting of its height on (high) and off (low).
-#[derive(Clone, Copy)]
+#[derive(Clone, Copy, Debug, PartialEq, Eq)]
 struct Sides {
     high: u64,
     low: u64,
@@ -41,10 +28,7 @@ pub fn pair_height(table1: &[u8], table2: &[u8], pair: u64) -> u64
 {
     let a = diagram::height_at(table1, Node((pair / 131072 / 2) as usize));
     let b = diagram::height_at(table2, Node((pair % 131072 / 2) as usize));
-    if a < b {
-        return b;
-    }
-    a
+    a.max(b)
 }
 
 // The cofactors of edge e by the setting of height h.
@@ -96,7 +80,7 @@ fn put_edges(sheet: &mut [u8], p: usize, i: usize, high: usize, low: usize)
     words::put_word(sheet, 3 * p + i, (2 * low) as u64);
 }
 
-// Finds a pair, or inserts it with all that it leads to.
+// Finds a pair, or inserts it with all that it leads to: its index, and how many pairs there are then; `None` if there is no room.
 fn visit(
     table1: &[u8],
     table2: &[u8],
@@ -104,37 +88,33 @@ fn visit(
     p: usize,
     count: usize,
     pair: u64,
-) -> Arrival
+) -> Option<(usize, usize)>
     requires { (0 < p) × (32 * p ≤ length sheet.old) × Keys (word_at sheet.old) p count × PairWithin table1.now table2.now pair }
     ensures { (length sheet.new ≡ length sheet.old)
         × Arrives (Visited table1.now table2.now (word_at sheet.old) (word_at sheet.new) p count pair)
         (Overfull (word_at table1.now) (word_at table2.now) (word_at sheet.old) p count pair) result }
 {
-    let place = keys::search(sheet, p, count, pair);
-    if place.index < count {
-        return Arrival::At(place.index, count);
-    }
+    let slot = match keys::search(sheet, p, count, pair) {
+        Ok(index) => return Some((index, count)),
+        Err(slot) => slot,
+    };
     if count == p {
-        return Arrival::Full;
+        return None;
     }
-    keys::insert_at(sheet, p, count, pair, place.slot);
+    keys::insert_at(sheet, p, count, pair, slot);
     let next = count + 1;
     let h = pair_height(table1, table2, pair);
     if h == 0 {
-        return Arrival::At(count, next);
+        return Some((count, next));
     }
     let sides = sides_of(table1, table2, pair, h);
-    let Arrival::At(high, more) = visit(table1, table2, sheet, p, next, sides.high) else {
-        return Arrival::Full;
-    };
-    let Arrival::At(low, total) = visit(table1, table2, sheet, p, more, sides.low) else {
-        return Arrival::Full;
-    };
+    let (high, more) = visit(table1, table2, sheet, p, next, sides.high)?;
+    let (low, total) = visit(table1, table2, sheet, p, more, sides.low)?;
     put_edges(sheet, p, count, high, low);
-    Arrival::At(count, total)
+    Some((count, total))
 }
 
-// Finds the pairs that the root edges lead to, each once, and stores what they lead to. Both tables have n settings, and a root's node is its table's last.
+// Finds the pairs that the root edges lead to, each once, stores what they lead to, and answers how many there are; `None` if there is no room for them. Both tables have n settings, and a root's node is its table's last.
 pub fn explore(
     table1: &[u8],
     table2: &[u8],
@@ -143,19 +123,17 @@ pub fn explore(
     n: u64,
     root1: Edge,
     root2: Edge,
-) -> Found
+) -> Option<usize>
     requires { HasDiagram table1.now n (root1.value / 2) × HasDiagram table2.now n (root2.value / 2) × (32 * p ≤ length sheet.old) }
     ensures { (length sheet.new ≡ length sheet.old)
         × Outcome (λ count. AllPairs table1.now table2.now n root1.value root2.value (word_at sheet.new) p count)
         (p < pair_count (word_at table1.now) (word_at table2.now) n root1.value root2.value) result }
 {
     if p == 0 {
-        return Found::Full;
+        return None;
     }
     keys::clear(sheet, p);
     let root = root1.value * 131072 + root2.value;
-    let Arrival::At(_, count) = visit(table1, table2, sheet, p, 0, root) else {
-        return Found::Full;
-    };
-    Found::All(count)
+    let (_, count) = visit(table1, table2, sheet, p, 0, root)?;
+    Some(count)
 }

@@ -11,18 +11,18 @@ use Rattle.words.proofs.Cases.{passed}
 use Rattle.diagram.specs.Meaning.{under}
 use Rattle.diagram.specs.Count.{count_below}
 use Rattle.diagram.specs.Answer.{Answer, value, refusal}
-use Rattle.diagram.specs.Reading.{IsHeader}
 use Rattle.diagram.proofs.AnswerLaws.{refused_not, value_inj}
 use Rattle.rules.specs.declared.Refusal.{Refusal}
 use Rattle.counting.specs.Inner.{stored, Opens, Countable}
 use Rattle.counting.proofs.Filling.{root_opens}
-use Rattle.checking.specs.declared.Checked.{Checked}
-use Rattle.checking.specs.declared.Checked.TheVariants.{Table, Refused}
-use Rattle.checking.specs.declared.Shape.{Shape}
-use Rattle.checking.specs.Answers.{checked_as}
+use Rattle.std.specs.Prelude.{Result, Ok, Err, IsErrAnd}
+use Rattle.diagram.specs.declared.Header.{Header}
+use Rattle.rules.specs.Refusals.{number_of, place_of}
+use Rattle.rules.proofs.Turns.{err_on}
+use Rattle.tables.specs.Answers.{written_as}
 use Rattle.checking.specs.Operations.{sheet_by}
 use Rattle.checking.specs.Inner.{Begins, Past}
-use Rattle.checking.proofs.Accepting.{handed_on, answered}
+use Rattle.checking.proofs.Accepting.{refused_by, answered}
 use Rattle.checking.proofs.Lending.{kept_past, handed_back, blanked}
 use Rattle.division.specs.Span.{start, size, within, in_part}
 use Rattle.division.specs.Operations.{no_part, span_of}
@@ -89,19 +89,19 @@ module _ {t s s' : List ℕ} {n N e : ℕ} (C : Countable t s n N e) {a : Answer
   span_countable = record { holds = C.holds; reduced = C.reduced; inside = C.inside; room = omega (arith, C.room, ap length shares, length-words_over (stored (word_at t)) (N + 1) s C.room) }
 
 -- part-write's promise
-module _ {table sheet after : List ℕ} {a : Checked} (B : Begins needed table sheet after a) (k j : ℕ) (out : List ℕ) where
+module _ {table sheet after : List ℕ} {a : Result Header Refusal} (B : Begins needed table sheet after a) (k j : ℕ) (out : List ℕ) where
   -- refused by the check
-  pub check_refused : {r : Refusal} → a ≡ Refused r → (number place : ℕ) → checked_as a ≡ refusal number place → Promise table k j sheet out (refusal number place) after out
+  pub check_refused : (b : Result ℕ Refusal) {r : Refusal} → a ≡ Err r → IsErrAnd b (λ d. d ≡ r) → Promise table k j sheet out (written_as b) after out
   unfolding part_writing_for length_of out_after
-  check_refused q number place e =
-      let p : refusal number place ≡ part_writing table k j sheet (length out) = handed_on B _ number place e in
-      record { answers = ap length_of p; writes = ap (λ b. out_after b out) p; leaves = handed_back B q }
+  check_refused b {r} q h =
+      let p : refusal (number_of r) (place_of r) ≡ part_writing table k j sheet (length out) = refused_by B _ q in
+      rw (err_on h) (record { answers = ap length_of p; writes = ap (λ b. out_after b out) p; leaves = handed_back B q })
 
   -- or as the part is answered and written
-  pub part_promised : {shape : Shape} → a ≡ Table shape → {n N e : ℕ} → IsHeader (word_at table) n N e → (answer : Answer ℕ) (out' sheet' blank : List ℕ)
-      → let part = part_of k j (length out) n (under (word_at table) e) in
-      (answer ≡ length_of part) × (out' ≡ out_after part out) × Past (needed N) after sheet' → blank ≡ words_over (λ _. 0) (needed N) sheet' → Promise table k j sheet out answer blank out'
+  pub part_promised : {h : Header} → a ≡ Ok h → (answer : Answer ℕ) (out' sheet' blank : List ℕ)
+      → let part = part_of k j (length out) h.settings (under (word_at table) h.root.value) in
+      (answer ≡ length_of part) × (out' ≡ out_after part out) × Past (needed h.nodes) after sheet' → blank ≡ words_over (λ _. 0) (needed h.nodes) sheet' → Promise table k j sheet out answer blank out'
   unfolding part_writing_for
-  part_promised q {n} {N} {e} h answer out' sheet' blank w z =
-      let p = answered B q h (part_of k j (length out)) (part_of k j (length out) n (under (word_at table) e)) refl in
-      record { answers = w.0 ∙ ap length_of p; writes = w.1 ∙ ap (λ b. out_after b out) p; leaves = blanked B q h.nodes_is sheet' blank w.2 z }
+  part_promised {h} q answer out' sheet' blank w z =
+      let p = answered B q (part_of k j (length out)) (part_of k j (length out) h.settings (under (word_at table) h.root.value)) refl in
+      record { answers = w.0 ∙ ap length_of p; writes = w.1 ∙ ap (λ b. out_after b out) p; leaves = blanked B q sheet' blank w.2 z }

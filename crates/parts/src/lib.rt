@@ -13,10 +13,9 @@ ghost use Rattle.tables.specs.Answers.{written_as};
 ghost use Rattle.tables.specs.Inner.{Writes};
 ghost use Rattle.parts.specs.Operations.{needed, part_of, Promise};
 
-use checking::Checked;
 use diagram::{Edge, Rank};
-use division::{Extent, Spanned};
-use tables::Written;
+use division::Extent;
+use rules::Refusal;
 
 // Writes the table of a part, by its extent. The sheet's places 0 to N hold the shares until the part's two bounds are known; then all places that are needed are for the new numbers.
 fn write_extent(
@@ -27,7 +26,7 @@ fn write_extent(
     nodes: usize,
     root: Edge,
     extent: Extent,
-) -> Written
+) -> Result<usize, Refusal>
     requires { Countable table.now sheet.old n nodes root.value × Opens table.now sheet.old root.value n × (8 * needed nodes ≤ length sheet.old)
         × (extent.start.0 + extent.size ≤ count_below (under (word_at table.now) root.value) (2 ^ n)) }
     ensures { Writes n (within (under (word_at table.now) root.value) extent.start.0 extent.size) out.old (written_as result) out.new
@@ -63,28 +62,27 @@ fn write_part(
     root: Edge,
     k: u64,
     j: u64,
-) -> Written
+) -> Result<usize, Refusal>
     requires { Countable table.now sheet.old n nodes root.value × (8 * needed nodes ≤ length sheet.old) }
     ensures { (written_as result ≡ length_of (part_of k j (length out.old) n (under (word_at table.now) root.value)))
         × (out.new ≡ out_after (part_of k j (length out.old) n (under (word_at table.now) root.value)) out.old)
         × Past (needed nodes) sheet.old sheet.new }
 {
-    let spanned = division::span_under(table, sheet, n, nodes, root, k, j);
-    match spanned {
-        Spanned::Part(extent) => write_extent(table, sheet, out, n, nodes, root, extent),
-        Spanned::Refused(r) => Written::Refused(r),
-    }
+    let extent = division::span_under(table, sheet, n, nodes, root, k, j)?;
+    write_extent(table, sheet, out, n, nodes, root, extent)
 }
 
 // Writes part j of k of the table as a table of its own, into the beginning of the out memory.
-pub fn part_write(table: &[u8], k: u64, j: u64, sheet: &mut [u8], out: &mut [u8]) -> Written
+pub fn part_write(
+    table: &[u8],
+    k: u64,
+    j: u64,
+    sheet: &mut [u8],
+    out: &mut [u8],
+) -> Result<usize, Refusal>
     ensures { Promise table.now k j sheet.old out.old (written_as result) sheet.new out.new }
 {
-    let checked = checking::begin_with(table, sheet, 1, 512);
-    let Checked::Table(_) = checked else {
-        return Written::Refused(checking::refusal_of(checked));
-    };
-    let header = diagram::header_of(table);
+    let header = checking::begin_with(table, sheet, 1, 512)?;
     let written = write_part(
         table,
         sheet,

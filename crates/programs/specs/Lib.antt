@@ -1,2 +1,3 @@
 -- What the programs share.
+pub mod Laying
 pub mod Reading

@@ -1,41 +1,34 @@
-// What the programs share: reading a table from standard input, and saying texts, numbers and refusals on standard output.
+// What the programs share: table A, words laid out as bytes, and the reading of a table from standard input.
 #![tactic(auto)]
 
-ghost use Rattle.std.specs.Prelude.{◌≡◌, ◌≤◌, length, IfOk, OnErr};
+ghost use Rattle.std.specs.Prelude.{◌≡◌, ◌≤◌, ◌<◌, ℕ, length, slice_index, IfOk, OnErr, MatchOption};
+ghost use Rattle.programs.specs.Laying.{byte_of};
 ghost use Rattle.programs.specs.Reading.{IsPrefixLen};
 
-use rules::Refusal;
-use std::io;
 use std::io::{Print, Read};
+use std::{array, io};
 
-pub fn say<P: Print>(to: &P, text: &[u8]) -> io::Result<()> {
-    to.write_all(text)
+// Table A.
+pub const A: [u64; 4] = [
+    0x0C00000060000006,
+    0x0400000000000001,
+    0x0800000040000003,
+    0x0C00000080000000,
+];
+
+// Byte i of a row of words, most significant first; 0 past the end.
+fn byte_of(words: &[u64], i: usize) -> u8
+    ensures { result ≡ byte_of words.now i }
+{
+    let word = words.get(i / 8).copied().unwrap_or(0);
+    word.to_be_bytes()[i % 8]
 }
 
-// A text, then a number.
-pub fn say_number<P: Print>(to: &P, text: &[u8], number: u64) -> io::Result<()> {
-    say(to, text)?;
-    to.print(number)
-}
-
-// A text, then `refused R at P`.
-pub fn say_refusal<P: Print>(to: &P, text: &[u8], refusal: Refusal) -> io::Result<()> {
-    say(to, text)?;
-    say_number(to, b"refused ", rules::number_of(refusal))?;
-    say_number(to, b" at ", rules::place_of(refusal) as u64)
-}
-
-// The line of a refusal.
-pub fn refuse<P: Print>(to: &P, refusal: Refusal) -> io::Result<()> {
-    say_refusal(to, b"", refusal)?;
-    say(to, b"\n")
-}
-
-// What was read: its length, and whether it is the whole table.
-#[derive(Clone, Copy)]
-pub struct Input {
-    pub length: usize,
-    pub whole: bool,
+// The first N bytes of a row of words; zeros past the end.
+pub fn bytes_of<const N: usize>(words: &[u64]) -> [u8; N]
+    ensures { (i : ℕ) → i < N → slice_index result i ≡ byte_of words.now i }
+{
+    array::from_fn(|i| byte_of(words, i))
 }
 
 // Reads until the memory is full or the input ends: how many bytes.
@@ -53,16 +46,21 @@ fn read_full<R: Read>(from: &mut R, memory: &mut [u8]) -> io::Result<usize>
     Ok(length)
 }
 
-// Reads a table of at most 4,096 bytes; of a longer one it says `too long`. A failed read or write is returned; what was read by then
-// stands in the memory, which is as long as it was.
-pub fn read_table<R: io::Input + Print>(rt: &R, memory: &mut [u8; 4097]) -> io::Result<Input>
-    ensures ok { IfOk result (λ input. IsPrefixLen input.length memory.new) }
+// Reads a table of at most 4,096 bytes, and gives its length. Of a longer one it says `too long`: then the memory is full. A failed read or
+// write is returned; what was read by then stands in the memory, which is as long as it was.
+// (It gives the length and not the slice: a clause on Err can name the memory only where the result doesn't borrow it.)
+pub fn read_table<R: io::Input + Print>(
+    rt: &R,
+    memory: &mut [u8; 4097],
+) -> io::Result<Option<usize>>
+    ensures ok { IfOk result (λ table. MatchOption table (IsPrefixLen (length memory.new) memory.new)
+        (λ n. IsPrefixLen n memory.new × (n ≤ 4096))) }
     ensures err { OnErr result (length memory.new ≡ length memory.old) }
 {
     let length = read_full(&mut rt.reader(), memory)?;
-    let whole = length <= 4096;
-    if !whole {
-        say(rt, b"too long\n")?;
+    if length <= 4096 {
+        return Ok(Some(length));
     }
-    Ok(Input { length, whole })
+    println!(rt; "too long")?;
+    Ok(None)
 }

@@ -1,18 +1,15 @@
 -- The number, the place and the values of each case of the answers of ranking and unranking. Assumes nothing.
-use Rattle.std.specs.Prelude.{ℕ}
-use Rattle.diagram.specs.Answer.{Answer, value, refusal}
-use Rattle.rules.specs.Refusals.{number_of, place_of}
-use Rattle.ranking.specs.declared.Ranked.{Ranked}
-use Rattle.ranking.specs.declared.Ranked.TheVariants as ranked
-use Rattle.ranking.specs.declared.Unranked.{Unranked}
-use Rattle.ranking.specs.declared.Unranked.TheVariants as unranked
+use Rattle.std.specs.Prelude.{ℕ, Result}
+use Rattle.diagram.specs.declared.Rank.{Rank}
+use Rattle.diagram.specs.declared.Setup.{Setup}
+use Rattle.diagram.specs.Answer.{Answer}
+use Rattle.rules.specs.declared.Refusal.{Refusal}
+use Rattle.rules.specs.Refusals.{answer_as}
 
 -- a rank
-abbrev pub ranked_as : Ranked → Answer ℕ
-ranked_as (ranked.At r) = value r.0
-ranked_as (ranked.Refused r) = refusal (number_of r) (place_of r)
+abbrev pub ranked_as : Result Rank Refusal → Answer ℕ
+ranked_as a = answer_as (λ r. r.0) a
 
 -- a setup
-abbrev pub unranked_as : Unranked → Answer ℕ
-unranked_as (unranked.To x) = value x.0
-unranked_as (unranked.Refused r) = refusal (number_of r) (place_of r)
+abbrev pub unranked_as : Result Setup Refusal → Answer ℕ
+unranked_as a = answer_as (λ x. x.0) a

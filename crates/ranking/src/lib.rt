@@ -10,44 +10,39 @@ ghost use Rattle.checking.specs.Inner.{Past};
 ghost use Rattle.ranking.specs.Answers.{ranked_as, unranked_as};
 ghost use Rattle.ranking.specs.Operations.{rank_setup, ranking, unrank_setup, unranking};
 
-use checking::{Checked, Tested};
 use diagram::{Edge, Rank, Setup};
 use rules::Refusal;
 
-#[derive(Clone, Copy)]
-pub enum Ranked {
-    At(Rank),
-    Refused(Refusal),
-}
-
-#[derive(Clone, Copy)]
-pub enum Unranked {
-    To(Setup),
-    Refused(Refusal),
-}
-
 // The rank of setup x among those of n settings that edge e permits, or rule 12, or rule 13. The shares are filled in for a rank only.
-fn rank_setup(table: &[u8], sheet: &mut [u8], n: u64, nodes: usize, e: Edge, x: Setup) -> Ranked
+fn rank_setup(
+    table: &[u8],
+    sheet: &mut [u8],
+    n: u64,
+    nodes: usize,
+    e: Edge,
+    x: Setup,
+) -> Result<Rank, Refusal>
     requires { Countable table.now sheet.old n nodes e.value }
     ensures { (ranked_as result ≡ rank_setup x.0 n (under (word_at table.now) e.value))
         × Past (nodes + 1) sheet.old sheet.new }
 {
-    let tested = checking::test_setup(table, n, e, x);
-    match tested {
-        Tested::Permitted(yes) => {
-            if yes {
-                counting::fill(table, sheet, n, nodes);
-                let r = smaller::rank_under(table, sheet, e, x);
-                return Ranked::At(r);
-            }
-            Ranked::Refused(Refusal::Unpermitted)
-        }
-        Tested::Refused(r) => Ranked::Refused(r),
+    let permitted = checking::test_setup(table, n, e, x)?;
+    if permitted {
+        counting::fill(table, sheet, n, nodes);
+        return Ok(smaller::rank_under(table, sheet, e, x));
     }
+    Err(Refusal::Unpermitted)
 }
 
 // The setup of rank r among those of n settings that edge e permits, or rule 14.
-fn unrank_setup(table: &[u8], sheet: &mut [u8], n: u64, nodes: usize, e: Edge, r: Rank) -> Unranked
+fn unrank_setup(
+    table: &[u8],
+    sheet: &mut [u8],
+    n: u64,
+    nodes: usize,
+    e: Edge,
+    r: Rank,
+) -> Result<Setup, Refusal>
     requires { Countable table.now sheet.old n nodes e.value }
     ensures { (unranked_as result ≡ unrank_setup r.0 n (under (word_at table.now) e.value))
         × Past (nodes + 1) sheet.old sheet.new }
@@ -55,37 +50,28 @@ fn unrank_setup(table: &[u8], sheet: &mut [u8], n: u64, nodes: usize, e: Edge, r
     counting::fill(table, sheet, n, nodes);
     let c = counting::count_under(sheet, e, n);
     if c <= r.0 {
-        return Unranked::Refused(Refusal::RankRange);
+        return Err(Refusal::RankRange);
     }
-    let x = descent::descend(table, sheet, n, e, r);
-    Unranked::To(x)
+    Ok(descent::descend(table, sheet, n, e, r))
 }
 
 // Ranks a setup: how many permitted setups are smaller.
-pub fn rank(table: &[u8], x: Setup, sheet: &mut [u8]) -> Ranked
+pub fn rank(table: &[u8], x: Setup, sheet: &mut [u8]) -> Result<Rank, Refusal>
     ensures { (ranked_as result ≡ ranking table.now x.0 sheet.old)
         × (sheet.new ≡ blank table.now sheet.old) }
 {
-    let checked = checking::begin(table, sheet);
-    let Checked::Table(_) = checked else {
-        return Ranked::Refused(checking::refusal_of(checked));
-    };
-    let header = diagram::header_of(table);
+    let header = checking::begin(table, sheet)?;
     let ranked = rank_setup(table, sheet, header.settings, header.nodes, header.root, x);
     words::blank(sheet, header.nodes + 1);
     ranked
 }
 
 // Unranks a number: the permitted setup with that many smaller ones.
-pub fn unrank(table: &[u8], r: Rank, sheet: &mut [u8]) -> Unranked
+pub fn unrank(table: &[u8], r: Rank, sheet: &mut [u8]) -> Result<Setup, Refusal>
     ensures { (unranked_as result ≡ unranking table.now r.0 sheet.old)
         × (sheet.new ≡ blank table.now sheet.old) }
 {
-    let checked = checking::begin(table, sheet);
-    let Checked::Table(_) = checked else {
-        return Unranked::Refused(checking::refusal_of(checked));
-    };
-    let header = diagram::header_of(table);
+    let header = checking::begin(table, sheet)?;
     let nodes = header.nodes;
     let unranked = unrank_setup(table, sheet, header.settings, nodes, header.root, r);
     words::blank(sheet, nodes + 1);

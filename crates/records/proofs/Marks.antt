@@ -1,5 +1,5 @@
 -- The marks, and rule 9 by them, in the terms of the code. Assumes nothing.
-use Prim.Native.Nat.{ℕ, zero, suc, ◌+◌, ◌-◌, ◌/◌, ◌<◌}
+use Prim.Native.Nat.{ℕ, zero, suc, ◌+◌, ◌-◌, ◌/◌, ◌≤◌, ◌<◌}
 use mathlib.Core.Path.{◌≡◌, refl, sym, ap, ◌∙◌}
 use mathlib.Core.Bool.{Bool, true, false, cond, ◌||◌, or-false, or_assoc}
 use mathlib.Core.List.{List}
@@ -50,17 +50,21 @@ marks_next w m m' k word h a b word_is F x y e q =
 mark_check : List ℕ → ℕ → Answer (Unit {0})
 mark_check marks k = cond (eqb (get_or marks (suc k) 0) 0) (refusal 9 (suc k)) pass
 
-pub marks_refused : (marks : List ℕ) (N k : ℕ) → k < N → check_marks marks k ≡ pass → get_or marks (k + 1) 0 ≡ 0 → refusal 9 (k + 1) ≡ check_marks marks N
-unfolding check_marks mark_check
-marks_refused marks N k l e q =
-    let z : get_or marks (suc k) 0 ≡ 0 = rw (← (add-one k)) q in
-    ap (refusal 9) (add-one k) ∙ sym (each_refused (mark_check marks) N k 9 (suc k) l e (rw (eq-eqb (get_or marks (suc k) 0) 0 z)))
+before : (j : ℕ) → suc j - 1 ≡ j
+before j = omega arith
 
-pub marks_passed : (marks : List ℕ) (k : ℕ) → check_marks marks k ≡ pass → (get_or marks (k + 1) 0 ≡ 0 → ⊥) → check_marks marks (k + 1) ≡ pass
+pub marks_refused : (marks : List ℕ) (N k : ℕ) → 0 < k → k ≤ N → check_marks marks (k - 1) ≡ pass → get_or marks k 0 ≡ 0 → refusal 9 k ≡ check_marks marks N
 unfolding check_marks mark_check
-marks_passed marks k e q =
-    let z : get_or marks (suc k) 0 ≡ 0 → ⊥ = λ i. q (rw (add-one k) i) in
-    ap (check_marks marks) (add-one k) ∙ each_next (mark_check marks) k e ∙ rw (ne_eqb (get_or marks (suc k) 0) 0 z)
+marks_refused marks N zero l i e z = absurd (omega arith)
+marks_refused marks N (suc j) l i e z =
+    sym (each_refused (mark_check marks) N j 9 (suc j) (omega arith) (rw (← before j) e) (rw (eq-eqb (get_or marks (suc j) 0) 0 z)))
+
+pub marks_passed : (marks : List ℕ) (k : ℕ) → 0 < k → check_marks marks (k - 1) ≡ pass → (get_or marks k 0 ≡ 0 → ⊥) → check_marks marks (k + 1 - 1) ≡ pass
+unfolding check_marks mark_check
+marks_passed marks zero l e z = absurd (omega arith)
+marks_passed marks (suc j) l e z =
+    let o : suc j + 1 - 1 ≡ suc j = omega arith in
+    ap (check_marks marks) o ∙ each_next (mark_check marks) j (rw (← before j) e) ∙ rw (ne_eqb (get_or marks (suc j) 0) 0 z)
 
 -- rule 9 by the marks, with one for node N, is rule 9
 pub marks_names : (marks : List ℕ) (w : Words) (N : ℕ) → Marked marks N w → N < length marks → check_marks (set marks N 1) N ≡ check_names w N

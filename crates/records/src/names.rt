@@ -5,7 +5,7 @@ ghost use Rattle.rules.specs.Refusals.{verdict_as};
 ghost use Rattle.records.specs.Inner.{check_marks};
 
 use diagram::Node;
-use rules::{Refusal, Verdict};
+use rules::Refusal;
 
 // Whether nodes 1 to `last` all have a mark. (There is no way out of the loop, so the compiler takes many marks at once.)
 fn all_marked(marks: &[u8], last: usize) -> bool
@@ -13,9 +13,7 @@ fn all_marked(marks: &[u8], last: usize) -> bool
     ensures { result ≡ true → check_marks marks.now last ≡ pass }
 {
     let mut all = true;
-    let mut k = 0;
-    while k < last {
-        k += 1;
+    for k in 1..=last {
         if marks[k] == 0 {
             all = false;
         }
@@ -24,19 +22,17 @@ fn all_marked(marks: &[u8], last: usize) -> bool
 }
 
 // The lowest node from 1 to `last` that has no mark is refused.
-pub fn check_marks(marks: &[u8], last: usize) -> Verdict
+pub fn check_marks(marks: &[u8], last: usize) -> Result<(), Refusal>
     requires { last < length marks.now }
     ensures { verdict_as result ≡ check_marks marks.now last }
 {
     if all_marked(marks, last) {
-        return Verdict::Passed;
+        return Ok(());
     }
-    let mut k = 0;
-    while k < last {
-        k += 1;
+    for k in 1..=last {
         if marks[k] == 0 {
-            return Verdict::Refused(Refusal::Unnamed(Node(k)));
+            return Err(Refusal::Unnamed(Node(k)));
         }
     }
-    Verdict::Passed
+    Ok(())
 }

@@ -8,7 +8,7 @@ ghost use Rattle.faults.specs.Inner.{previous};
 ghost use Rattle.records.specs.Inner.{InLevel, PassFrom, Marked};
 
 use diagram::{Edge, Node, Record};
-use rules::Verdict;
+use rules::Refusal;
 
 // The record before record k, or 0.
 fn word_before(table: &[u8], k: usize) -> u64
@@ -16,16 +16,17 @@ fn word_before(table: &[u8], k: usize) -> u64
     ensures { result ≡ previous (word_at table.now) k }
 {
     if 1 < k {
-        return words::word_at(table, k - 1);
+        words::word_at(table, k - 1)
+    } else {
+        0
     }
-    0
 }
 
 // Whether a record is above `before` and below `limit`, its else-edge below `low` and its then-edge plain, and they differ.
 fn in_level(word: u64, before: u64, limit: u64, low: u64) -> bool
     ensures { result ≡ true → InLevel word before limit low }
 {
-    let record = Record::of(word);
+    let record = Record::from(word);
     if word <= before {
         return false;
     }
@@ -38,7 +39,7 @@ fn in_level(word: u64, before: u64, limit: u64, low: u64) -> bool
     if record.high.flagged() {
         return false;
     }
-    record.high.value != record.low.value
+    record.high != record.low
 }
 
 // Marks the nodes that a record of these fields names.
@@ -46,10 +47,8 @@ fn mark_named(marks: &mut [u8], fields: Record)
     requires { (fields.high.value / 2 < length marks.old) × (fields.low.value / 2 < length marks.old) }
     ensures { marks.new ≡ set (set marks.old (fields.high.value / 2) 1) (fields.low.value / 2) 1 }
 {
-    let a = fields.high.node().0;
-    let b = fields.low.node().0;
-    marks[a] = 1;
-    marks[b] = 1;
+    marks[fields.high.node().0] = 1;
+    marks[fields.low.node().0] = 1;
 }
 
 // A record from k on up to which all pass if those up to k do; what they name is marked. If k is the first of its height, the nodes below k are the lower ones: no child's height is read.
@@ -70,37 +69,33 @@ fn skip_level(table: &[u8], marks: &mut [u8], nodes: usize, k: usize) -> usize
         low: Edge::ALWAYS,
     };
     let limit = end.word();
-    let mut at = k;
     let mut before = words::word_at(table, k);
-    while at < nodes {
+    for at in k..nodes {
         let word = words::word_at(table, at + 1);
         if !in_level(word, before, limit, low) {
             return at;
         }
-        mark_named(marks, Record::of(word));
-        at += 1;
+        mark_named(marks, Record::from(word));
         before = word;
     }
-    at
+    nodes
 }
 
 // Rules 4 to 8, of records 1 to N upward. Where they pass, the nodes that they name are marked, in marks that were clear.
-pub fn check_records(table: &[u8], marks: &mut [u8], n: u64, nodes: usize) -> Verdict
+pub fn check_records(table: &[u8], marks: &mut [u8], n: u64, nodes: usize) -> Result<(), Refusal>
     requires { (8 * nodes + 8 ≤ length table.now) × (nodes ≤ 65535) × (nodes < length marks.old) × Marked marks.old 0 (word_at table.now) }
     ensures { (verdict_as result ≡ check_records (word_at table.now) n nodes)
         × (length marks.new ≡ length marks.old) × (verdict_as result ≡ pass → Marked marks.new nodes (word_at table.now)) }
 {
+    // (No `for`: a step is not one, but a level.)
     let mut k = 0;
     while k < nodes {
         k += 1;
         let before = word_before(table, k);
         let word = words::word_at(table, k);
-        let verdict = faults::check_record(table, n, Node(k), word, before);
-        let Verdict::Passed = verdict else {
-            return verdict;
-        };
-        mark_named(marks, Record::of(word));
+        faults::check_record(table, n, Node(k), word, before)?;
+        mark_named(marks, Record::from(word));
         k = skip_level(table, marks, nodes, k);
     }
-    Verdict::Passed
+    Ok(())
 }

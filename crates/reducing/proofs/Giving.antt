@@ -7,7 +7,7 @@ use Rattle.words.proofs.Stores.{Updated}
 use Rattle.diagram.specs.Format.{Words}
 use Rattle.numbering.specs.Renewal.{normal}
 use Rattle.numbering.specs.Numbered.{Good, dropped, made}
-use Rattle.sorting.specs.Sorting.{Strict, Among}
+use Rattle.sorting.specs.Sorting.{Strict}
 use Rattle.reducing.specs.Inner.{edge_of, records_of}
 use Rattle.reducing.specs.Steps.{Nodes, last_of, Findable, Countable, Counted}
 use Rattle.reducing.proofs.Lists.{cursor_first, none_behind, walk_falls, cursor_next, walked}
@@ -16,14 +16,6 @@ use Rattle.reducing.proofs.Lists.{cursor_first, none_behind, walk_falls, cursor_
 pub good_as : {h t e x c c' : ℕ} {L L' : Words} → Good h t e x L c → c ≤ c' → ((k : ℕ) → k < c → L' (suc k) ≡ L (suc k)) → Good h t e x L' c'
 good_as (dropped t x) m f = dropped t x
 good_as (made k l n x e) m f = made k (omega arith) n x (f k l ∙ e)
-
--- the word z of different edges t and e is there
-pub findable_among : (W : ℕ → ℕ) (P c end h i t e z : ℕ) → Findable W P c end h i → t ≡ W (P + i) → e ≡ W (3 * P + i) → (t ≡ e → ⊥) → z ≡ normal h t e → Among W c end z
-findable_among W P c end h i t e z F t-is e-is n z-is = rw (z-is, t-is, e-is) (F.there (λ q. n (t-is ∙ q ∙ sym e-is)))
-
--- what a node becomes: its edge, if its edges are equal
-pub result_dropped : (W : ℕ → ℕ) (P h i end t e : ℕ) → t ≡ W (P + i) → e ≡ W (3 * P + i) → t ≡ e → Good h (W (P + i)) (W (3 * P + i)) (suc t) (records_of W) end
-result_dropped W P h i end t e t-is e-is q = dropped (sym t-is ∙ q ∙ e-is) (ap suc t-is)
 
 -- or the number k + 1 of its record
 pub result_made : (W : ℕ → ℕ) (P h i end t e k : ℕ) → t ≡ W (P + i) → e ≡ W (3 * P + i) → (t ≡ e → ⊥) → k < end → W k ≡ normal h t e

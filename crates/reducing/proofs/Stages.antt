@@ -19,10 +19,6 @@ abbrev pub Begin : Nodes → List ℕ → Type 0
 Begin D heads = (h : ℕ) → h ≤ 63 → get_or heads h 0 ≡ last_of D.height h D.count
 
 module _ (W : ℕ → ℕ) (P n M : ℕ) (H : HoldsNodes W P n M) where
-  -- they have heights up to 63
-  pub heights_low : n ≤ 63 → (i : ℕ) → i < M → height_of W P i ≤ 63
-  heights_low l i m = omega (arith, H.loose.low i m)
-
   -- their lists are made
   module _ (X : ℕ → ℕ) (heads : List ℕ) (L : Linked (height_of W P) W X heads P M) where
     edge_stays : (b : Bool) (i : ℕ) → i < M → edge_of X P b i ≡ edge_of W P b i
@@ -47,12 +43,10 @@ module _ (W : ℕ → ℕ) (P n M : ℕ) (H : HoldsNodes W P n M) where
       links = L.links;
     }
 
--- the next height
-pub staged_ready : (few : Bool) (D : Nodes) (W : ℕ → ℕ) (P c h first : ℕ) → Staged D W P c h → h < 63 → c ≤ 65535 → first ≡ last_of D.height (h + 1) D.count
-    → (few ≡ true → D.count ≤ 65536) → Ready few D W P c (h + 1) first
-staged_ready few D W P c h first S l m e f =
-    let q : h + 1 - 1 ≡ h = omega arith in
-    record { some = omega arith; low = omega arith; small = m; staged = rw q S; begins = e; count_low = f }
+-- the next height is h
+pub staged_ready : (few : Bool) (D : Nodes) (W : ℕ → ℕ) (P c h first : ℕ) → Staged D W P c (h - 1) → 0 < h → h ≤ 63 → c ≤ 65535 → first ≡ last_of D.height h D.count
+    → (few ≡ true → D.count ≤ 65536) → Ready few D W P c h first
+staged_ready few D W P c h first S k l m e f = record { some = k; low = l; small = m; staged = S; begins = e; count_low = f }
 
 -- the nodes of the sheet W are numbered in X up to height h
 module _ (W X : ℕ → ℕ) (P n M c h : ℕ) (S : Staged (nodes_of W P n M) X P c h) where

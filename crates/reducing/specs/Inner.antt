@@ -1,8 +1,6 @@
 -- How the nodes lie in a sheet of four regions of P places, and what is left there: for inner contracts only. Assumes nothing.
-use Rattle.std.specs.Prelude.{ℕ, zero, suc, ◌+◌, ◌*◌, ◌≤◌, ◌<◌, ◌≡◌, Bool, cond}
+use Rattle.std.specs.Prelude.{ℕ, zero, suc, ◌+◌, ◌*◌, ◌≤◌, ◌<◌, ◌≡◌, Bool, cond, Option, Some, None}
 use Rattle.diagram.specs.Format.{Words}
-use Rattle.reducing.specs.declared.Reduced.{Reduced}
-use Rattle.reducing.specs.declared.Reduced.TheVariants.{Records, TooMany}
 use Rattle.reducing.specs.Levels.{Loose, Levelled}
 
 -- before: the height of node i, and its two edges; a node of height 0 has its flag in place of the first
@@ -32,6 +30,6 @@ pub record Numbers (W W' : ℕ → ℕ) (P M c h : ℕ) : Type 0 where
   pub flags_stay : (i : ℕ) → i < M → height_of W P i ≡ 0 → W' (P + i) ≡ W (P + i)
 
 -- by cases: all heights are numbered, with at most 65,535 records; or at some height there are more
-abbrev pub Outcome : (ℕ → ℕ) → (ℕ → ℕ) → ℕ → ℕ → ℕ → Reduced → Type 0
-Outcome W W' P n M (Records c) = (c ≤ 65535) × (c ≤ M) × Numbers W W' P M c n
-Outcome W W' P n M TooMany = (c : ℕ) × (h : ℕ) × (65535 < c) × (h ≤ n) × Numbers W W' P M c h
+abbrev pub Outcome : (ℕ → ℕ) → (ℕ → ℕ) → ℕ → ℕ → ℕ → Option ℕ → Type 0
+Outcome W W' P n M (Some c) = (c ≤ 65535) × (c ≤ M) × Numbers W W' P M c n
+Outcome W W' P n M None = (c : ℕ) × (h : ℕ) × (65535 < c) × (h ≤ n) × Numbers W W' P M c h

@@ -1,6 +1,7 @@
 // Numbers the nodes of a diagram height by height: nodes in any order become the records of a reduced diagram.
 // The sheet has regions of p places. At first node i has its two edges (2 × node + flag) at p + i and 3 p + i, and its height at 2 p + i; a node of height 0 has its flag at p + i.
 // In the end the edge that node i has become stands at p + i, and the records stand from place 0 on.
+// (`sheet` and `p` stay two parameters: `keys` says why.)
 #![tactic(auto)]
 
 ghost use Rattle.std.specs.Prelude.{◌≡◌, true, not, suc, ◌+◌, ◌*◌, ◌/◌, ◌≤◌, ◌<◌, eqb, length, replicate};
@@ -12,26 +13,17 @@ ghost use Rattle.reducing.specs.Steps.{Nodes, Linked, Low, Ready, Leads, Renewed
 
 use diagram::Edge;
 
-// How many records there are, or that there are more than 65,535.
-#[derive(Clone, Copy)]
-pub enum Reduced {
-    Records(usize),
-    TooMany,
-}
-
 // Makes a list for each height: heads[h] is 1 + the last node of height h, or 0, and in place of its height a node gets 1 + the one of its height before it, or 0.
 fn link(sheet: &mut [u8], heads: &mut [u64; 64], p: usize, count: usize)
     requires { (32 * p ≤ length sheet.old) × (count ≤ p) × (heads.old ≡ replicate 64 0) × Low (height_of (word_at sheet.old) p) count }
     ensures { (length sheet.new ≡ length sheet.old)
         × Linked (height_of (word_at sheet.old) p) (word_at sheet.old) (word_at sheet.new) heads.new p count }
 {
-    let mut i = 0;
-    while i < count {
+    for i in 0..count {
         let place = 2 * p + i;
         let at = words::word_at(sheet, place) as usize;
         words::put_word(sheet, place, heads[at]);
         heads[at] = (i + 1) as u64;
-        i += 1;
     }
 }
 
@@ -58,7 +50,7 @@ fn renew(sheet: &mut [u8], few: bool, p: usize, i: usize, h: u64, end: usize) ->
     words::put_word(sheet, high, t.value);
     words::put_word(sheet, low, e.value);
     words::put_word(sheet, end, carrying::word_of(few, h, t, e, i));
-    t.value != e.value
+    t != e
 }
 
 // Collects the words of the nodes of height h whose edges become different ones, from place c on, and answers where they end.
@@ -90,7 +82,7 @@ fn result_of(sheet: &[u8], p: usize, c: usize, end: usize, h: u64, i: usize) -> 
     let e = Edge {
         value: words::word_at(sheet, 3 * p + i),
     };
-    if t.value == e.value {
+    if t == e {
         return t.value;
     }
     let k = sorting::find(sheet, c, end, numbering::normal_word(h, t, e));
@@ -128,8 +120,8 @@ fn level(sheet: &mut [u8], few: bool, p: usize, c: usize, h: u64, first: u64) ->
     r
 }
 
-// Numbers the nodes, up to height n.
-pub fn reduce(sheet: &mut [u8], p: usize, count: usize, n: u64) -> Reduced
+// Numbers the nodes, up to height n, and answers how many records there are; `None` if there are more than 65,535.
+pub fn reduce(sheet: &mut [u8], p: usize, count: usize, n: u64) -> Option<usize>
     requires { (32 * p ≤ length sheet.old) × (n ≤ 63) × HoldsNodes (word_at sheet.old) p n count }
     ensures { (length sheet.new ≡ length sheet.old)
         × Outcome (word_at sheet.old) (word_at sheet.new) p n count result }
@@ -138,14 +130,11 @@ pub fn reduce(sheet: &mut [u8], p: usize, count: usize, n: u64) -> Reduced
     link(sheet, &mut heads, p, count);
     let few = count <= 65536;
     let mut c = 0;
-    let mut h = 0;
-    while h < n {
-        h += 1;
-        let first = heads[h as usize];
-        c = level(sheet, few, p, c, h, first);
+    for h in 1..=n {
+        c = level(sheet, few, p, c, h, heads[h as usize]);
         if 65535 < c {
-            return Reduced::TooMany;
+            return None;
         }
     }
-    Reduced::Records(c)
+    Some(c)
 }

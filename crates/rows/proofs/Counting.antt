@@ -1,5 +1,5 @@
 -- Counting by the row of an edge's node, in the terms of the code. Assumes nothing.
-use Rattle.std.proofs.Common.{◌≡◌, ℕ, ◌+◌, ◌*◌, ◌/◌, ◌%◌, ◌<◌, ◌≤◌, Bool, true, false, eqb, List, length, le_refl, mod-lt, arith, lit<}
+use Rattle.std.proofs.Common.{◌≡◌, ℕ, ◌+◌, ◌-◌, ◌*◌, ◌/◌, ◌%◌, ◌<◌, ◌≤◌, Bool, true, false, eqb, List, length, refl, le_refl, mod-lt, arith, lit<}
 use Rattle.words.specs.Words.{word_at}
 use Rattle.diagram.specs.Meaning.{under}
 use Rattle.diagram.proofs.Edges.{flag_set, flag_clear}
@@ -22,19 +22,20 @@ less_same : (d all sum x y : ℕ) → (d + sum) % 18446744073709551616 ≡ all �
 less_same d all sum x y p q r = omega arith
 
 module _ (s : List ℕ) (e n m v : ℕ) (v-is : v ≡ e / 2) (sum all : ℕ) (sum_is_lem : sum ≡ expand (from s ((m + 1) * v)) n m % 18446744073709551616) (all_is : all ≡ binomial n m)
-    (f : Bool) (f-is : f ≡ eqb (e % 2) 1) (d : ℕ) where
+    (f : Bool) (f-is : f ≡ eqb (e % 2) 1) where
   -- by the row as the flag turns it
-  counted : d < 18446744073709551616 → Same d (all + expand (turned (e % 2) (from s ((m + 1) * v))) n m) → CountsUnder s e n m (d / 2)
-  counted fits d-is t O =
+  counted : (d : ℕ) → d < 18446744073709551616 → Same d (all + expand (turned (e % 2) (from s ((m + 1) * v))) n m) → CountsUnder s e n m (d / 2)
+  counted d fits d-is t O =
       row_counts (under (word_at t) e) (turned (e % 2) (row_of s m (e / 2))) m n O.few (edge_stands t s m (e / 2) O.rows e n (le_refl (e / 2)) O.low) d fits
       (rw (← v-is, ← all_is) d-is)
 
-  pub counts_plain : f ≡ false → d ≡ (all + sum) % 18446744073709551616 → CountsUnder s e n m (d / 2)
+  pub counts_plain : f ≡ false → CountsUnder s e n m ((all + sum) % 18446744073709551616 / 2)
   unfolding turned
-  counts_plain q d-is = counted (rw d-is (mod-lt (all + sum) (lit< tt))) (rw (flag_clear e f f-is q) (more_same d all sum _ d-is sum_is_lem))
+  counts_plain q = counted _ (mod-lt (all + sum) (lit< tt)) (rw (flag_clear e f f-is q) (more_same _ all sum _ refl sum_is_lem))
 
-  pub counts_flagged : f ≡ true → d < 18446744073709551616 → (d + sum) % 18446744073709551616 ≡ all → CountsUnder s e n m (d / 2)
+  pub counts_flagged : f ≡ true → all < 18446744073709551616 → CountsUnder s e n m ((all + (18446744073709551616 - sum)) % 18446744073709551616 / 2)
   unfolding turned
-  counts_flagged q fits d-is =
+  counts_flagged q fits =
       let at = (m + 1) * v in
-      counted fits (rw (flag_set e f f-is q) (less_same d all sum (expand (from s at) n m) (expand (opposed (from s at)) n m) d-is sum_is_lem (opposed_sum (from s at) (from_fits s at) n m)))
+      let back : ((all + (18446744073709551616 - sum)) % 18446744073709551616 + sum) % 18446744073709551616 ≡ all = omega arith in
+      counted _ (mod-lt (all + (18446744073709551616 - sum)) (lit< tt)) (rw (flag_set e f f-is q) (less_same _ all sum (expand (from s at) n m) (expand (opposed (from s at)) n m) back sum_is_lem (opposed_sum (from s at) (from_fits s at) n m)))

@@ -1,5 +1,5 @@
 -- Arithmetic modulo 2 ^ 64. Assumes nothing.
-use Rattle.std.proofs.Common.{◌≡◌, ℕ, ◌+◌, ◌-◌, ◌*◌, ◌/◌, ◌%◌, ◌<◌, sym, ap, ◌∙◌, ap₂, lt_of_le_of_lt, le_of_lt, mul-le-mul_left, mul-lt-mul_of_pos_right, div-add-mod', arith, lit<}
+use Rattle.std.proofs.Common.{◌≡◌, ℕ, ◌+◌, ◌-◌, ◌*◌, ◌/◌, ◌%◌, ◌<◌, sym, ap, ◌∙◌, div-add-mod', arith}
 
 -- equal modulo 2 ^ 64
 abbrev pub Same : ℕ → ℕ → Type 0
@@ -23,26 +23,6 @@ mul_same a b c p = mul_mod a c ∙ ap (λ (r : ℕ). r * c % 1844674407370955161
 -- twice a number below 2 ^ 63, halved
 pub half_same : (d c : ℕ) → d < 18446744073709551616 → c < 9223372036854775808 → Same d (c + c) → d / 2 ≡ c
 half_same d c k l p = omega arith
-
--- a product of two halves fits
-pub halves_fit : (a b : ℕ) → a < 4294967296 → b < 4294967296 → a * b < 18446744073709551616
-halves_fit a b p q = lt_of_le_of_lt (mul-le-mul_left a (le_of_lt q)) (mul-lt-mul_of_pos_right p (lit< tt))
-
--- a product by halves
-carried : (u t v : ℕ) → Same (u + t % 18446744073709551616 % 4294967296 * 4294967296) (v * 18446744073709551616 + t * 4294967296 + u)
-carried u t v = omega arith
-
-pub by_halves : (a b : ℕ)
-    → (a % 4294967296 * (b % 4294967296) + (a / 4294967296 * (b % 4294967296) + a % 4294967296 * (b / 4294967296)) % 18446744073709551616 % 4294967296 * 4294967296) % 18446744073709551616
-    ≡ a * b % 18446744073709551616
-by_halves a b =
-    let a₀ = a % 4294967296 in
-    let a₁ = a / 4294967296 in
-    let b₀ = b % 4294967296 in
-    let b₁ = b / 4294967296 in
-    let e : a * b ≡ (a₁ * 4294967296 + a₀) * (b₁ * 4294967296 + b₀) = ap₂ ◌*◌ (sym (div-add-mod' a 4294967296)) (sym (div-add-mod' b 4294967296)) in
-    let f : a * b ≡ a₁ * b₁ * 18446744073709551616 + (a₁ * b₀ + a₀ * b₁) * 4294967296 + a₀ * b₀ = omega arith in
-    carried (a₀ * b₀) (a₁ * b₀ + a₀ * b₁) (a₁ * b₁) ∙ ap (◌% 18446744073709551616) (sym f)
 
 -- a number with its sign turned
 pub sign_same : (z : ℕ) → z < 18446744073709551616 → Same ((18446744073709551616 - z) % 18446744073709551616 + z) 0

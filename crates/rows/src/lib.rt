@@ -8,32 +8,17 @@ ghost use Rattle.pascal.specs.Triangle.{PascalsRule};
 ghost use Rattle.rows.specs.Inner.{expand, from, Mixes, Next, Entered, Rows, Fillable, Opened, CountsUnder};
 
 use diagram::{Edge, Node};
-use std::num::{wrapping_add_u64, wrapping_sub_u64};
 
 // Fills `count` places from `to` on: the numbers from `high` on, and those from `plus` on, less those from `minus` on.
 fn mix(sheet: &mut [u8], to: usize, high: usize, plus: usize, minus: usize, count: usize)
     requires { (high + count ≤ to) × (plus + count ≤ to) × (minus + count ≤ to) × (8 * (to + count) ≤ length sheet.old) }
     ensures { Mixes sheet.old sheet.new to high plus minus count }
 {
-    let mut i = 0;
-    while i < count {
-        let sum = wrapping_add_u64(words::load(sheet, high + i), words::load(sheet, plus + i));
+    for i in 0..count {
+        let sum = words::load(sheet, high + i).wrapping_add(words::load(sheet, plus + i));
         let less = words::load(sheet, minus + i);
-        words::store(sheet, to + i, wrapping_sub_u64(sum, less));
-        i += 1;
+        words::store(sheet, to + i, sum.wrapping_sub(less));
     }
-}
-
-// The product modulo 2^64, by halves: no product of two halves wraps.
-fn times(a: u64, b: u64) -> u64
-    ensures { result ≡ a * b % 2 ^ 64 }
-{
-    let a0 = a % 4294967296;
-    let a1 = a / 4294967296;
-    let b0 = b % 4294967296;
-    let b1 = b / 4294967296;
-    let middle = wrapping_add_u64(a1 * b0, a0 * b1) % 4294967296;
-    wrapping_add_u64(a0 * b0, middle * 4294967296)
 }
 
 // Makes the row of node k from those of its edges, of m + 1 places each. The then-edge is plain.
@@ -48,7 +33,7 @@ fn enter_row(table: &[u8], sheet: &mut [u8], k: Node, m: usize)
     let low = width * record.low.node().0;
     let first = words::load(sheet, low);
     if record.low.flagged() {
-        words::store(sheet, to, wrapping_sub_u64(0, first));
+        words::store(sheet, to, first.wrapping_neg());
         mix(sheet, to + 1, high, low, low + 1, m);
     } else {
         words::store(sheet, to, first);
@@ -56,17 +41,15 @@ fn enter_row(table: &[u8], sheet: &mut [u8], k: Node, m: usize)
     }
 }
 
-// Makes the rows of nodes 0 to N, up to entry m.
+// Makes the rows of nodes 0 to N, up to entry m. (k counts from 0: `1..=nodes` takes an instruction a node more.)
 pub fn fill(table: &[u8], sheet: &mut [u8], n: u64, nodes: usize, m: usize)
     requires { Fillable table.now sheet.old n nodes m }
     ensures { Rows table.now sheet.new m nodes }
 {
     words::blank(sheet, m + 1);
     words::store(sheet, 0, 1);
-    let mut k = 0;
-    while k < nodes {
-        k += 1;
-        enter_row(table, sheet, Node(k), m);
+    for k in 0..nodes {
+        enter_row(table, sheet, Node(k + 1), m);
     }
 }
 
@@ -75,17 +58,13 @@ fn expand_row(sheet: &[u8], binomials: &[u64; 2080], at: usize, n: usize, m: usi
     requires { PascalsRule binomials.now 64 × (n ≤ 63) × (m ≤ n) × (8 * (at + m + 1) ≤ length sheet.now) }
     ensures { result ≡ expand (from sheet.now at) n m % 2 ^ 64 }
 {
-    let mut sum = 0;
-    let mut i = 0;
-    while i < m {
-        let term = times(
-            words::load(sheet, at + i),
-            pascal::coefficient(binomials, n - i, m - i),
-        );
-        sum = wrapping_add_u64(sum, term);
-        i += 1;
+    let mut sum: u64 = 0;
+    for i in 0..m {
+        let a = words::load(sheet, at + i);
+        let b = pascal::coefficient(binomials, n - i, m - i);
+        sum = sum.wrapping_add(a.wrapping_mul(b));
     }
-    wrapping_add_u64(sum, words::load(sheet, at + m))
+    sum.wrapping_add(words::load(sheet, at + m))
 }
 
 // How many setups of n settings that edge e permits have exactly m settings on. (All setups with m on, and those permitted less the others, are twice as many.)
@@ -97,7 +76,8 @@ pub fn count_under(sheet: &[u8], e: Edge, n: usize, m: usize) -> u64
     let sum = expand_row(sheet, &binomials, (m + 1) * e.node().0, n, m);
     let all = pascal::coefficient(&binomials, n, m);
     if e.flagged() {
-        return wrapping_sub_u64(all, sum) / 2;
+        all.wrapping_sub(sum) / 2
+    } else {
+        all.wrapping_add(sum) / 2
     }
-    wrapping_add_u64(all, sum) / 2
 }

@@ -1,10 +1,8 @@
 -- The number and the place of each refusal. Assumes nothing.
-use Rattle.std.specs.Prelude.{ℕ}
-use Rattle.diagram.specs.Answer.{Answer, refusal, pass}
+use Rattle.std.specs.Prelude.{ℕ, Result, Ok, Err}
+use Rattle.diagram.specs.Answer.{Answer, value, refusal}
 use Rattle.rules.specs.declared.Refusal.{Refusal}
 use Rattle.rules.specs.declared.Refusal.TheVariants.{Length, Nodes, Root, Height, Order, Target, ThenFlag, EqualEdges, Unnamed, Sheet, Out, SetupRange, Unpermitted, RankRange, PartRange, TooManyNodes, ItemRange, Falls, ShortList, UnequalSettings, TooManyPairs, NonePermitted}
-use Rattle.rules.specs.declared.Verdict.{Verdict}
-use Rattle.rules.specs.declared.Verdict.TheVariants.{Passed, Refused}
 
 -- the number of a refusal
 abbrev pub number_of : Refusal → ℕ
@@ -56,7 +54,11 @@ place_of UnequalSettings = 0
 place_of TooManyPairs = 0
 place_of NonePermitted = 0
 
+-- an operation's answer: the value as f gives it, or the refusal by its number and its place
+abbrev pub answer_as : {V A : Type 0} → (V → A) → Result V Refusal → Answer A
+answer_as f (Ok v) = value (f v)
+answer_as f (Err r) = refusal (number_of r) (place_of r)
+
 -- some rules pass, or the first that does not
-abbrev pub verdict_as : Verdict → Answer (Unit {0})
-verdict_as Passed = pass
-verdict_as (Refused r) = refusal (number_of r) (place_of r)
+abbrev pub verdict_as : Result (Unit {0}) Refusal → Answer (Unit {0})
+verdict_as v = answer_as (λ u. u) v

@@ -6,13 +6,15 @@ ghost use Rattle.diagram.specs.Rules.{wrong_root, check_header_of};
 ghost use Rattle.rules.specs.Refusals.{number_of, place_of, verdict_as};
 
 use diagram::Node;
+use std::error::Error;
+use std::fmt;
 
 // An item of a list, counted from 1.
-#[derive(Clone, Copy)]
+#[derive(Clone, Copy, Debug, PartialEq, Eq)]
 pub struct Item(pub usize);
 
 // Why an operation is refused, and at which record or item.
-#[derive(Clone, Copy)]
+#[derive(Clone, Copy, Debug, PartialEq, Eq)]
 pub enum Refusal {
     Length,
     Nodes,
@@ -37,6 +39,17 @@ pub enum Refusal {
     TooManyPairs,
     NonePermitted,
 }
+
+impl fmt::Display for Refusal {
+    // `refused R at P`
+    fn fmt<W: fmt::Write>(&self, f: &mut fmt::Formatter<W>) -> fmt::Result {
+        let number = number_of(*self);
+        let place = place_of(*self);
+        write!(f, "refused {number} at {place}")
+    }
+}
+
+impl Error for Refusal {}
 
 // The number of a refusal.
 pub fn number_of(refusal: Refusal) -> u64
@@ -73,28 +86,14 @@ pub fn place_of(refusal: Refusal) -> usize
     ensures { result ≡ place_of refusal }
 {
     match refusal {
-        Refusal::Length => 0,
-        Refusal::Nodes => 0,
-        Refusal::Root => 0,
-        Refusal::Height(k) => k.0,
-        Refusal::Order(k) => k.0,
-        Refusal::Target(k) => k.0,
-        Refusal::ThenFlag(k) => k.0,
-        Refusal::EqualEdges(k) => k.0,
-        Refusal::Unnamed(k) => k.0,
-        Refusal::Sheet => 0,
-        Refusal::Out => 0,
-        Refusal::SetupRange => 0,
-        Refusal::Unpermitted => 0,
-        Refusal::RankRange => 0,
-        Refusal::PartRange => 0,
-        Refusal::TooManyNodes => 0,
-        Refusal::ItemRange(i) => i.0,
-        Refusal::Falls(i) => i.0,
-        Refusal::ShortList => 0,
-        Refusal::UnequalSettings => 0,
-        Refusal::TooManyPairs => 0,
-        Refusal::NonePermitted => 0,
+        Refusal::Height(k)
+        | Refusal::Order(k)
+        | Refusal::Target(k)
+        | Refusal::ThenFlag(k)
+        | Refusal::EqualEdges(k)
+        | Refusal::Unnamed(k) => k.0,
+        Refusal::ItemRange(i) | Refusal::Falls(i) => i.0,
+        _ => 0,
     }
 }
 
@@ -106,44 +105,40 @@ pub fn pack_refusal(refusal: Refusal) -> u64
     9223372036854775808 + 4294967296 * number_of(refusal) + (place_of(refusal) as u64)
 }
 
-// Some of the rules: they pass, or the first that does not.
-#[derive(Clone, Copy)]
-pub enum Verdict {
-    Passed,
-    Refused(Refusal),
-}
-
 // Whether a root edge may not lead to node v among `nodes`.
 fn is_wrong_root(v: usize, nodes: usize, loose: bool) -> bool
     ensures { result ≡ wrong_root loose v nodes }
 {
-    if loose {
-        return nodes < v;
-    }
-    v != nodes
+    if loose { nodes < v } else { v != nodes }
 }
 
 // Rules 1 to 3, of a table or of a loose one, and 10 where the sheet has `places` places and each × N + more are needed.
-pub fn check_header(table: &[u8], places: usize, each: usize, more: usize, loose: bool) -> Verdict
+pub fn check_header(
+    table: &[u8],
+    places: usize,
+    each: usize,
+    more: usize,
+    loose: bool,
+) -> Result<(), Refusal>
     requires { (each ≤ 64) × (more ≤ 512) }
     ensures { verdict_as result ≡ check_header_of loose table.now places (λ N. each * N + more) }
 {
     if table.len() < 8 {
-        return Verdict::Refused(Refusal::Length);
+        return Err(Refusal::Length);
     }
     let header = diagram::header_of(table);
     let nodes = header.nodes;
     if 65535 < nodes {
-        return Verdict::Refused(Refusal::Nodes);
+        return Err(Refusal::Nodes);
     }
     if table.len() != 8 * (nodes + 1) {
-        return Verdict::Refused(Refusal::Length);
+        return Err(Refusal::Length);
     }
     if is_wrong_root(header.root.node().0, nodes, loose) {
-        return Verdict::Refused(Refusal::Root);
+        return Err(Refusal::Root);
     }
     if places < each * nodes + more {
-        return Verdict::Refused(Refusal::Sheet);
+        return Err(Refusal::Sheet);
     }
-    Verdict::Passed
+    Ok(())
 }

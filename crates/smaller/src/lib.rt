@@ -1,4 +1,5 @@
 // How many smaller setups an edge or a node permits.
+// `Filled` is a clause of three functions and no invariant of a struct: each asks it of a node of its own, and of a table and a sheet in a struct each would have to ask that its node lies there.
 #![tactic(auto)]
 
 ghost use Rattle.std.specs.Prelude.{◌≡◌, ◌+◌, ◌*◌, ◌/◌, ◌%◌, ◌≤◌, ◌<◌, ◌^◌};
@@ -28,20 +29,18 @@ fn step_from(table: &[u8], sheet: &[u8], k: Node, y: Setup) -> Step
     let record = diagram::record_at(table, k);
     let h = record.height - 1;
     let half = 1 << h;
-    let low = record.low;
     if y.0 < half {
-        return Step {
-            edge: low,
+        Step {
+            edge: record.low,
             passed: 0,
             rest: y,
-        };
-    }
-    let edge = record.high;
-    let passed = counting::count_under(sheet, low, h);
-    Step {
-        edge,
-        passed,
-        rest: Setup(y.0 - half),
+        }
+    } else {
+        Step {
+            edge: record.high,
+            passed: counting::count_under(sheet, record.low, h),
+            rest: Setup(y.0 - half),
+        }
     }
 }
 
@@ -52,9 +51,10 @@ fn across_gap(e: Edge, g: u64, block: u64, y: Setup, inside: Rank) -> Rank
 {
     let before = (y.0 >> g) * block;
     if e.flagged() {
-        return Rank(before + (y.0 % (1 << g) - inside.0));
+        Rank(before + (y.0 % (1 << g) - inside.0))
+    } else {
+        Rank(before + inside.0)
     }
-    Rank(before + inside.0)
 }
 
 // How many setups below y node k permits. It calls itself on the node of the edge by which y leaves: the height falls.

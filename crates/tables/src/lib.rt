@@ -4,15 +4,6 @@
 ghost use Rattle.std.specs.Prelude.{◌≡◌};
 ghost use Rattle.tables.specs.Writing.{front_of};
 
-use rules::Refusal;
-
-// How many bytes were written, or why none were.
-#[derive(Clone, Copy)]
-pub enum Written {
-    Bytes(usize),
-    Refused(Refusal),
-}
-
 // The front of the out memory: its first bytes, as many as asked for, or none if it has fewer.
 pub fn front(out: &mut [u8], bytes: usize) -> &mut [u8]
     ensures { result.now ≡ front_of bytes out.old }

@@ -18,8 +18,7 @@ use Rattle.diagram.proofs.AnswerLaws.{refused_not, value_inj}
 use Rattle.diagram.proofs.Refusals.{early_low, header_refuses}
 use Rattle.diagram.proofs.Accept.{Headed, headed, some_root}
 use Rattle.rules.specs.declared.Refusal.{Refusal}
-use Rattle.rules.specs.declared.Verdict.{Verdict}
-use Rattle.rules.specs.declared.Verdict.TheVariants.{Passed, Refused}
+use Rattle.std.specs.Prelude.{Result, Ok, Err}
 use Rattle.rules.specs.Refusals.{number_of, place_of, verdict_as}
 use Rattle.loose.specs.Rules.{check_loose_records, check_loose}
 use Rattle.loose.specs.Inner.{Loosely}
@@ -57,20 +56,20 @@ module _ (t s out : List ℕ) where
   }
 
   -- the verdict v on the header, then u on the records
-  module _ (v : Verdict) (v-is : verdict_as v ≡ check_header_of true t (length s / 8) needed) where
-    pub header_refused : (r : Refusal) → v ≡ Refused r → Promise t s out (refusal (number_of r) (place_of r)) s out
+  module _ (v : Result (Unit {0}) Refusal) (v-is : verdict_as v ≡ check_header_of true t (length s / 8) needed) where
+    pub header_refused : (r : Refusal) → v ≡ Err r → Promise t s out (refusal (number_of r) (place_of r)) s out
     unfolding checking_loose check_loose and_then
     header_refused r q =
         let e : check_header_of true t (length s / 8) needed ≡ refusal (number_of r) (place_of r) = sym v-is ∙ ap verdict_as q in
         own_refused (number_of r) (place_of r) (rw e) (early_low (header_refuses true t (length s / 8) needed (number_of r) (place_of r) e)).0
 
-    header_passed : v ≡ Passed → check_header_of true t (length s / 8) needed ≡ pass
+    header_passed : v ≡ Ok tt → check_header_of true t (length s / 8) needed ≡ pass
     header_passed passed = sym v-is ∙ ap verdict_as passed
 
-    pub header_holds : v ≡ Passed → Headed true t (length s / 8) needed
+    pub header_holds : v ≡ Ok tt → Headed true t (length s / 8) needed
     header_holds passed = headed true t (length s / 8) needed (header_passed passed)
 
-    module _ (passed : v ≡ Passed) (n N e : ℕ) (h : IsHeader w n N e) where
+    module _ (passed : v ≡ Ok tt) (n N e : ℕ) (h : IsHeader w n N e) where
       abbrev H : Headed true t (length s / 8) needed
       H = header_holds passed
 
@@ -84,8 +83,8 @@ module _ (t s out : List ℕ) where
       pub header_enough : 8 * needed N ≤ length s
       header_enough = omega (arith, H.enough, h.nodes_is)
 
-      module _ (u : Verdict) (u-is : verdict_as u ≡ check_loose_records w n N) where
-        pub records_refused : (r : Refusal) → u ≡ Refused r → Promise t s out (refusal (number_of r) (place_of r)) s out
+      module _ (u : Result (Unit {0}) Refusal) (u-is : verdict_as u ≡ check_loose_records w n N) where
+        pub records_refused : (r : Refusal) → u ≡ Err r → Promise t s out (refusal (number_of r) (place_of r)) s out
         unfolding checking_loose check_loose and_then
         records_refused r q =
             let d : check_loose_records w n N ≡ refusal (number_of r) (place_of r) = sym u-is ∙ ap verdict_as q in
@@ -93,7 +92,7 @@ module _ (t s out : List ℕ) where
             (λ z. elim (records_refuse w n N (number_of r) (place_of r) d).0 [ inl a ↦ omega arith | inr a ↦ omega arith ])
 
         -- records that pass are those of a loose table
-        pub records_loosely : u ≡ Passed → Loosely t n N
+        pub records_loosely : u ≡ Ok tt → Loosely t n N
         records_loosely q = record {
           long = header_long;
           few = header_few;

@@ -12,34 +12,28 @@ ghost use Rattle.tables.specs.Answers.{written_as};
 ghost use Rattle.tightening.specs.Operations.{Promise};
 ghost use Rattle.tightening.specs.Inner.{Tightens, Copied};
 
-use checking::Checked;
 use diagram::Edge;
-use rules::{Refusal, Verdict};
-use tables::Written;
+use rules::Refusal;
 
 // Copies the first m words of a table.
 fn copy_words(table: &[u8], out: &mut [u8], m: usize)
     requires { (8 * m ≤ length table.now) × (8 * m ≤ length out.old) }
     ensures { Copied table.now out.new m × (length out.new ≡ length out.old) }
 {
-    let mut k = 0;
-    while k < m {
-        words::put_word(out, k, words::word_at(table, k));
-        k += 1;
-    }
+    out[..8 * m].copy_from_slice(&table[..8 * m]);
 }
 
 // Writes an accepted table of N nodes as it is: rule 11.
-fn copy_table(table: &[u8], out: &mut [u8], nodes: usize) -> Written
+fn copy_table(table: &[u8], out: &mut [u8], nodes: usize) -> Result<usize, Refusal>
     requires { Accepted table.now (settings (word_at table.now)) nodes }
     ensures { Tightens (settings (word_at table.now)) nodes (permitted (word_at table.now)) out.old (written_as result) out.new }
 {
     let end = 8 * (nodes + 1);
     if out.len() < end {
-        return Written::Refused(Refusal::Out);
+        return Err(Refusal::Out);
     }
     copy_words(table, &mut out[..end], nodes + 1);
-    Written::Bytes(end)
+    Ok(end)
 }
 
 // Writes the table of what a loose table of N nodes permits: rule 11.
@@ -50,7 +44,7 @@ fn tighten(
     n: u64,
     nodes: usize,
     root: Edge,
-) -> Written
+) -> Result<usize, Refusal>
     requires { Loosely table.now n nodes × IsHeader (word_at table.now) n nodes root.value × (40 * (nodes + 1) ≤ length sheet.old) }
     ensures { Tightens n nodes (permitted (word_at table.now)) out.old (written_as result) out.new }
 {
@@ -60,19 +54,13 @@ fn tighten(
 }
 
 // Makes a loose table proper, be it a table or not.
-fn make_loose_proper(table: &[u8], sheet: &mut [u8], out: &mut [u8]) -> Written
+fn make_loose_proper(table: &[u8], sheet: &mut [u8], out: &mut [u8]) -> Result<usize, Refusal>
     ensures { Promise table.now sheet.old out.old (written_as result) sheet.new out.new }
 {
-    let first = rules::check_header(table, sheet.len() / 8, 8, 512, true);
-    if let Verdict::Refused(r) = first {
-        return Written::Refused(r);
-    }
+    rules::check_header(table, sheet.len() / 8, 8, 512, true)?;
     let header = diagram::header_of(table);
     let nodes = header.nodes;
-    let records = loose::check_records(table, header.settings, nodes);
-    if let Verdict::Refused(r) = records {
-        return Written::Refused(r);
-    }
+    loose::check_records(table, header.settings, nodes)?;
     let end = 40 * (nodes + 1);
     let written = tighten(
         table,
@@ -87,13 +75,12 @@ fn make_loose_proper(table: &[u8], sheet: &mut [u8], out: &mut [u8]) -> Written
 }
 
 // Makes a loose table proper, in the beginning of the out memory. A table that is accepted is its own answer.
-pub fn make_proper(table: &[u8], sheet: &mut [u8], out: &mut [u8]) -> Written
+pub fn make_proper(table: &[u8], sheet: &mut [u8], out: &mut [u8]) -> Result<usize, Refusal>
     ensures { Promise table.now sheet.old out.old (written_as result) sheet.new out.new }
 {
-    let checked = checking::begin_with(table, sheet, 8, 512);
-    if let Checked::Table(shape) = checked {
-        words::blank(sheet, 8 * shape.nodes + 512);
-        return copy_table(table, out, shape.nodes);
+    if let Ok(header) = checking::begin_with(table, sheet, 8, 512) {
+        words::blank(sheet, 8 * header.nodes + 512);
+        return copy_table(table, out, header.nodes);
     }
     make_loose_proper(table, sheet, out)
 }

@@ -1,5 +1,5 @@
 -- Where a rank leaves the way that was kept, and the way before the first rank, in the terms of the code. Assumes nothing.
-use Prim.Native.Nat.{ℕ, ◌+◌, ◌-◌, ◌/◌, ◌^◌, ◌≤◌, ◌<◌}
+use Prim.Native.Nat.{ℕ, ◌-◌, ◌/◌, ◌^◌, ◌≤◌, ◌<◌}
 use mathlib.Core.Path.{◌≡◌, sym, ap, ◌∙◌}
 use mathlib.Core.List.{List}
 use native.Mathlib.Omega.{arith}
@@ -17,18 +17,6 @@ use Rattle.descent.specs.Inner.{IsBelow}
 use Rattle.descent.proofs.Choosing.{chosen_first}
 use Rattle.trail.specs.Inner.{Ends, Entry, Trail, Follows, Resumes}
 use Rattle.trail.proofs.Keeping.{left_below}
-
--- the ends from the lowest up, the first h of them not above r
-module _ (ends : List ℕ) (r h : ℕ) (over : (k : ℕ) → k < h → get_or ends k 0 ≤ r) where
-  pub not_left : Ends ends r → h < 64
-  not_left e =
-      elim (tri h e.top) [ less q ↦ omega (arith, e.few) | same q ↦ omega (arith, e.few) | more q ↦ absurd (omega (arith, over e.top q, e.above)) ]
-
-  pub one_more_left : get_or ends h 0 ≤ r → (k : ℕ) → k < h + 1 → get_or ends k 0 ≤ r
-  one_more_left l k u = elim (tri k h) [ less q ↦ over k q | same q ↦ rw q l | more q ↦ absurd (omega arith) ]
-
-  pub first_left : (k : ℕ) → r < get_or ends k 0 → h ≤ k
-  first_left k u = elim (tri k h) [ less q ↦ absurd (omega (arith, over k q)) | same q ↦ omega arith | more q ↦ omega arith ]
 
 -- some end is above a rank that has a setup
 pub some_end : (t s : List ℕ) (n root r : ℕ) (edges ends : List ℕ) (last : ℕ) → Resumes t s n root r edges ends last → Ends ends r
@@ -49,15 +37,9 @@ module _ (t s : List ℕ) (n root r : ℕ) (edges ends : List ℕ) (last : ℕ) 
   left_few : E.left < count_below (under (word_at t) (get_or edges h 0)) (2 ^ h)
   left_few = left_below (word_at t) n root r h (get_or edges h 0) E.left (last / 2 ^ (h - 0)) E.chosen
 
-  pub resumed_opens : (h < 64) × Opens t s (get_or edges h 0) h
-  resumed_opens = (omega (arith, low, T.few), E.opens)
-
   module _ (g c : ℕ) (B : IsBelow (word_at t) (get_or edges h 0) h g c) where
     left_is : c - (get_or ends h 0 - r) ≡ E.left
     left_is = omega (arith, E.end_is, B.count_is, left_few)
-
-    pub left_fits : get_or ends h 0 - r ≤ c
-    left_fits = omega (arith, E.end_is, B.count_is)
 
     pub resumed : (way : Way) → way.edge.value ≡ get_or edges h 0 → way.height ≡ g → way.count ≡ c → way.left ≡ c - (get_or ends h 0 - r) → way.digits ≡ last / 2 ^ h → Follows t s n root r edges ends h way
     resumed way p q u v d =

@@ -29,6 +29,10 @@ pub record Trail (t s : List ℕ) (n root r : ℕ) (edges ends : List ℕ) (h x 
   pub top : get_or ends n 0 ≡ count_below (under (word_at t) root) (2 ^ n)
   pub entry : (k : ℕ) → h ≤ k → k ≤ n → r < get_or ends k 0 → Entry t s n root r k (get_or edges k 0) (get_or ends k 0) (x / 2 ^ (k - h))
 
+-- before the first rank, in whichever table root edge `root` has `count` setups over n settings
+abbrev pub Begins : ℕ → ℕ → ℕ → List ℕ → List ℕ → ℕ → Type 0
+Begins n root count edges ends x = (t s : List ℕ) → Opens t s root n → count ≡ count_below (under (word_at t) root) (2 ^ n) → Trail t s n root 0 edges ends 0 x
+
 -- the way itself, and what is kept of it
 pub record Follows (t s : List ℕ) (n root r : ℕ) (edges ends : List ℕ) (h : ℕ) (way : Way) : Type 0 where
   pub low : h ≤ n
@@ -39,6 +43,10 @@ pub record Follows (t s : List ℕ) (n root r : ℕ) (edges ends : List ℕ) (h 
 -- some way is followed, from whichever edge
 abbrev pub Followed : List ℕ → List ℕ → ℕ → List ℕ → List ℕ → ℕ → Way → Type 0
 Followed t s r edges ends h way = (n : ℕ) × (root : ℕ) × Follows t s n root r edges ends h way
+
+-- ... in some table
+abbrev pub FollowedIn : ℕ → List ℕ → List ℕ → ℕ → Way → Type 0
+FollowedIn r edges ends h way = (t : List ℕ) × (s : List ℕ) × Followed t s r edges ends h way
 
 -- rank r can be followed from what is kept of the way to the setup `last`
 pub record Resumes (t s : List ℕ) (n root r : ℕ) (edges ends : List ℕ) (last : ℕ) : Type 0 where
@@ -56,6 +64,10 @@ pub record Reaches (t s : List ℕ) (n root r : ℕ) (edges ends : List ℕ) (x 
 -- whichever way was followed, it is followed on
 abbrev pub FollowsOn : List ℕ → List ℕ → ℕ → List ℕ → List ℕ → ℕ → Way → List ℕ → List ℕ → ℕ → Way → Type 0
 FollowsOn t s r edges ends h way edges' ends' h' way' = (n root : ℕ) → Follows t s n root r edges ends h way → Follows t s n root r edges' ends' h' way'
+
+-- ... in whichever table
+abbrev pub FollowsOnIn : ℕ → List ℕ → List ℕ → ℕ → Way → List ℕ → List ℕ → ℕ → Way → Type 0
+FollowsOnIn r edges ends h way edges' ends' h' way' = (t s : List ℕ) → FollowsOn t s r edges ends h way edges' ends' h' way'
 
 -- ... and to its setup
 abbrev pub FollowsTo : List ℕ → List ℕ → ℕ → List ℕ → List ℕ → ℕ → Way → List ℕ → List ℕ → ℕ → Type 0

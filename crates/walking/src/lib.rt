@@ -22,6 +22,7 @@ fn branch_of(table: &[u8], k: Node, x: Setup) -> Edge
 }
 
 // Whether setup x is permitted under a plain edge to node k.
+// (This function and the next are twins that call each other, not one: a rule of the project, the form that the order names; docs/DECISIONS.md 6.)
 #[cycle(permitted_flagged_permitted_plain)]
 fn permitted_plain(table: &[u8], k: Node, x: Setup) -> bool
     requires { Within table.now k.0 }
@@ -68,7 +69,7 @@ pub fn permitted_under(table: &[u8], e: Edge, x: Setup) -> bool
 }
 
 // The node that an edge leads to: its height, and the edge's two sides by its setting.
-#[derive(Clone, Copy)]
+#[derive(Clone, Copy, Debug, PartialEq, Eq)]
 pub struct Fork {
     pub height: u64,
     pub sides: Cofactors,

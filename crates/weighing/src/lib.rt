@@ -10,8 +10,8 @@ ghost use Rattle.checking.specs.Operations.{blank_for};
 ghost use Rattle.pascal.specs.Ones.{count_on};
 ghost use Rattle.weighing.specs.Operations.{needed, counting_on};
 
-use checking::{Checked, Counted};
 use diagram::Edge;
+use rules::Refusal;
 
 // How many setups of n settings that edge e permits have exactly m settings on. The sheet has 64 places for each node.
 fn count_on_under(table: &[u8], sheet: &mut [u8], n: u64, nodes: usize, e: Edge, m: u64) -> u64
@@ -26,15 +26,11 @@ fn count_on_under(table: &[u8], sheet: &mut [u8], n: u64, nodes: usize, e: Edge,
 }
 
 // Counts the permitted setups with exactly m settings on.
-pub fn count_on(table: &[u8], m: u64, sheet: &mut [u8]) -> Counted
+pub fn count_on(table: &[u8], m: u64, sheet: &mut [u8]) -> Result<u64, Refusal>
     ensures { (counted_as result ≡ counting_on table.now m sheet.old)
         × (sheet.new ≡ blank_for needed table.now sheet.old) }
 {
-    let checked = checking::begin_with(table, sheet, 64, 64);
-    let Checked::Table(_) = checked else {
-        return Counted::Refused(checking::refusal_of(checked));
-    };
-    let header = diagram::header_of(table);
+    let header = checking::begin_with(table, sheet, 64, 64)?;
     let places = 64 * (header.nodes + 1);
     let end = 8 * places;
     let c = count_on_under(
@@ -46,5 +42,5 @@ pub fn count_on(table: &[u8], m: u64, sheet: &mut [u8]) -> Counted
         m,
     );
     words::blank(sheet, places);
-    Counted::Total(c)
+    Ok(c)
 }

@@ -6,8 +6,8 @@ use native.Mathlib.Omega.{arith}
 use native.Mathlib.Nat.{div-div-eq-div-mul, pow-suc, mod-eq_of_lt, mod-one, div-one, one-le-pow}
 use lib.Dec.{lit<}
 use lib.Arith.{mod-mul}
-use lib.ListN.{length, get_or, drop, length-append, length-drop, get_or-append}
-use lib.Seq.{get_or-append-add, get_or-drop, take_at, drop_at, drop-drop, drop-append-add}
+use lib.ListN.{length, get_or, take, drop, replicate, replicate-append-replicate, length-append, length-drop, get_or-append}
+use lib.Seq.{length-take-le, get_or-append-add, get_or-drop, take_at, drop_at, drop-drop, drop-append-add}
 use Rattle.words.specs.Words.{Bytes, be_at, word_at, bytes_of, put_word, words_bytes, words_over}
 use Rattle.words.proofs.Cases.{less, same, more, tri}
 
@@ -75,6 +75,18 @@ length-words_over f m s l = length-append (words_bytes f m) (drop (8 * m) s) ∙
 pub no_words : (f : ℕ → ℕ) (s : List ℕ) → s ≡ words_over f 0 s
 unfolding words_over words_bytes
 no_words f s = refl
+
+-- words of 0: bytes of 0
+zeros : (m : ℕ) → replicate (8 * m) 0 ≡ words_bytes (λ _. 0) m
+unfolding words_bytes bytes_of
+zeros zero = refl
+zeros (suc m) =
+    let e : 8 * suc m ≡ 8 * m + 8 = omega arith in
+    ap (λ (i : ℕ). replicate i 0) e ∙ sym (replicate-append-replicate (8 * m) 8 0) ∙ ap (λ (l : List ℕ). l ++ replicate 8 0) (zeros m)
+
+pub words_of_zeros : (m : ℕ) (s front : List ℕ) → 8 * m ≤ length s → front ≡ replicate (length (take (8 * m) s)) 0 → front ++ drop (8 * m) s ≡ words_over (λ _. 0) m s
+unfolding words_over
+words_of_zeros m s front l e = ap (λ (p : List ℕ). p ++ drop (8 * m) s) (e ∙ ap (λ (i : ℕ). replicate i 0) (length-take-le (8 * m) s l) ∙ zeros m)
 
 -- a run of words over a shorter one
 pub over_over : (f g : ℕ → ℕ) (m m' : ℕ) (s : List ℕ) → m ≤ m' → words_over f m' (words_over g m s) ≡ words_over f m' s

@@ -26,7 +26,7 @@ unfolding update
 update_is W k x = record { here = rw (eq-eqb k k refl); other = λ i n. rw (ne_eqb i k n) }
 
 -- equal bytes are equal words
-be_cong : (a b : List ℕ) (at i : ℕ) → ((j : ℕ) → at ≤ j → j < at + i → get_or a j 0 ≡ get_or b j 0) → be_at a at i ≡ be_at b at i
+pub be_cong : (a b : List ℕ) (at i : ℕ) → ((j : ℕ) → at ≤ j → j < at + i → get_or a j 0 ≡ get_or b j 0) → be_at a at i ≡ be_at b at i
 unfolding be_at
 be_cong a b at zero f = refl
 be_cong a b at (suc i) f = ap₂ (λ (x y : ℕ). 256 * x + y) (be_cong a b at i (λ j l m. f j l (omega arith))) (f (at + i) (omega arith) (omega arith))

@@ -3,22 +3,9 @@
 #![tactic(auto)]
 
 ghost use Rattle.std.specs.Prelude.{◌≡◌, ◌+◌, ◌*◌, ◌≤◌, length};
+ghost use Rattle.std.specs.Int.{w64, to_le_bytes};
 ghost use Rattle.words.specs.Words.{word_at, put_word, words_over};
 ghost use Rattle.words.specs.Swap.{swap};
-
-// The number of eight bytes, least significant first.
-fn little_of(a: u8, b: u8, c: u8, d: u8, e: u8, f: u8, g: u8, h: u8) -> u64
-    ensures { result ≡ a + b * 256 + c * 65536 + d * 16777216 + e * 4294967296 + f * 1099511627776 + g * 281474976710656 + h * 72057594037927936 }
-{
-    (a as u64)
-        + (b as u64) * 256
-        + (c as u64) * 65536
-        + (d as u64) * 16777216
-        + (e as u64) * 4294967296
-        + (f as u64) * 1099511627776
-        + (g as u64) * 281474976710656
-        + (h as u64) * 72057594037927936
-}
 
 // The eight bytes of word k, least significant first.
 pub fn load(bytes: &[u8], k: usize) -> u64
@@ -26,16 +13,16 @@ pub fn load(bytes: &[u8], k: usize) -> u64
     ensures { swap result ≡ word_at bytes.now k }
 {
     let i = 8 * k;
-    little_of(
-        bytes[i],
-        bytes[i + 1],
-        bytes[i + 2],
-        bytes[i + 3],
-        bytes[i + 4],
-        bytes[i + 5],
-        bytes[i + 6],
-        bytes[i + 7],
-    )
+    u64::from_le_bytes(*bytes[i..i + 8].as_array().unwrap())
+}
+
+// Stores v into eight bytes, least significant first. `copy_from_slice` would test at each store whether the two overlap.
+// A function of its own: of a part of a slice that is lent on as an array, Rattle doesn't tell what the part ends as.
+fn write_little(word: &mut [u8], v: u64)
+    requires { length word.old ≡ 8 }
+    ensures { word.new ≡ to_le_bytes w64 v }
+{
+    *word.as_mut_array().unwrap() = v.to_le_bytes();
 }
 
 // Stores v as word k, least significant byte first.
@@ -44,28 +31,7 @@ pub fn store(bytes: &mut [u8], k: usize, v: u64)
     ensures { bytes.new ≡ put_word bytes.old k (swap v) }
 {
     let i = 8 * k;
-    bytes[i] = (v % 256) as u8;
-    bytes[i + 1] = (v / 256 % 256) as u8;
-    bytes[i + 2] = (v / 65536 % 256) as u8;
-    bytes[i + 3] = (v / 16777216 % 256) as u8;
-    bytes[i + 4] = (v / 4294967296 % 256) as u8;
-    bytes[i + 5] = (v / 1099511627776 % 256) as u8;
-    bytes[i + 6] = (v / 281474976710656 % 256) as u8;
-    bytes[i + 7] = (v / 72057594037927936 % 256) as u8;
-}
-
-// The bytes of v in the opposite order.
-fn swapped(v: u64) -> u64
-    ensures { result ≡ swap v }
-{
-    v % 256 * 72057594037927936
-        + v / 256 % 256 * 281474976710656
-        + v / 65536 % 256 * 1099511627776
-        + v / 16777216 % 256 * 4294967296
-        + v / 4294967296 % 256 * 16777216
-        + v / 1099511627776 % 256 * 65536
-        + v / 281474976710656 % 256 * 256
-        + v / 72057594037927936 % 256
+    write_little(&mut bytes[i..i + 8], v);
 }
 
 // Word k.
@@ -73,7 +39,7 @@ pub fn word_at(bytes: &[u8], k: usize) -> u64
     requires { 8 * k + 8 ≤ length bytes.now }
     ensures { result ≡ word_at bytes.now k }
 {
-    swapped(load(bytes, k))
+    load(bytes, k).swap_bytes()
 }
 
 // Stores v as word k.
@@ -81,7 +47,7 @@ pub fn put_word(bytes: &mut [u8], k: usize, v: u64)
     requires { 8 * k + 8 ≤ length bytes.old }
     ensures { bytes.new ≡ put_word bytes.old k v }
 {
-    store(bytes, k, swapped(v));
+    store(bytes, k, v.swap_bytes());
 }
 
 // Stores 0 as words 0 to m - 1.
@@ -89,9 +55,5 @@ pub fn blank(bytes: &mut [u8], m: usize)
     requires { 8 * m ≤ length bytes.old }
     ensures { bytes.new ≡ words_over (λ _. 0) m bytes.old }
 {
-    let mut k = 0;
-    while k < m {
-        put_word(bytes, k, 0);
-        k += 1;
-    }
+    bytes[..8 * m].fill(0);
 }

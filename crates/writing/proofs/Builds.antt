@@ -10,7 +10,7 @@ use Rattle.diagram.specs.Meaning.{under}
 use Rattle.diagram.specs.Ordered.{Ordered, Reduced}
 use Rattle.diagram.proofs.Agree.{agree_under, reduced_agree}
 use Rattle.cutting.specs.Cut.{extended, cut_edge, Cut, TwiceCut}
-use Rattle.cutting.proofs.Extended.{extended_low}
+use Rattle.cutting.proofs.Behind.{extended_low}
 use Rattle.cutting.proofs.TwoCuts.{once_ordered, once_inside, two_shape, two_inside, two_means}
 use Rattle.numbering.specs.Numbered.{Marked, KeepsOrder, Alike, AllNumbered}
 use Rattle.numbering.proofs.Finish.{finish}

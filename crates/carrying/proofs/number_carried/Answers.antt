@@ -8,14 +8,10 @@ use Rattle.words.proofs.Stores.{stored, stored_long}
 use Rattle.carrying.specs.Words.{Carries}
 use Rattle.carrying.proofs.Placing.{placing_first, turn_carries, turn_room, placing_next}
 use Rattle.carrying.proofs.number_carried.Goals as goal
-use Rattle.carrying.proofs.number_carried.Goals.{After-put_word, After-word_at-word, In-loop-k, Joined-last-key, else-last-key, then-last-key}
+use Rattle.carrying.proofs.number_carried.Goals.{After-put_word, After-word_at-word, Joined-last-key, else-last-key, then-last-key}
 
 pub loop-k-init : goal.loop-k-init
 loop-k-init c = (refl, placing_first _ _ _ _ _ c.requires.2)
-
--- the word lies in the sheet
-word_room : (c : In-loop-k) → 8 * c.loop-k.k + 8 ≤ length c.loop-k.sheet
-word_room c = let p = c.requires in omega (arith, p.0, p.2.to, c.loop-k.invariant.0, c.loop-k-test.true)
 
 -- it carries a node
 carries : (c : After-word_at-word) → Carries c.args.p c.word_at-word.result
@@ -40,10 +36,6 @@ node_room : (c : After-put_word)
 node_room c =
     omega (arith, c.requires.0, c.loop-k.invariant.0, (carries (goal.at.After-put_word c).After-word_at-word).inside, stored_long _ _ _ _ c.put_word.ensures (omega (arith, record-room (goal.at.After-put_word c).Joined-last-key)))
 
-pub record_of-requires : goal.record_of-requires
-record_of-requires c =
-    (c.requires.1, omega (arith, (carries (goal.at.record_of-requires c).After-word_at-word).fits))
-
 pub loop-k-preserved : goal.loop-k-preserved
 loop-k-preserved c =
     let z = c.record_of.ensures in
@@ -61,30 +53,3 @@ returns c =
     let i = c.loop-k.invariant in
     let e : c.loop-k.k ≡ c.args.end = omega (arith, i.1.to, c.loop-k-test.false) in
     (i.0, rw e at i.1.placed)
-
-pub word_at-word-requires : goal.word_at-word-requires
-word_at-word-requires c = word_room c
-
-pub overflow_add-r : goal.overflow_add-r
-overflow_add-r c = omega (arith, word_room (goal.at.overflow_add-r c).In-loop-k)
-
-pub overflow_sub-r : goal.overflow_sub-r
-overflow_sub-r c = omega (arith, room (goal.at.overflow_sub-r c).Joined-last-key)
-
-pub put_word-requires : goal.put_word-requires
-put_word-requires c = omega (arith, record-room (goal.at.put_word-requires c).Joined-last-key)
-
-pub overflow_add-place : goal.overflow_add-place
-overflow_add-place c = omega (arith, node_room (goal.at.overflow_add-place c).After-put_word)
-
-pub overflow_mul-r : goal.overflow_mul-r
-overflow_mul-r c = omega (arith, record-room (goal.at.overflow_mul-r c).Joined-last-key)
-
-pub overflow_add-r-in-loop-k : goal.overflow_add-r-in-loop-k
-overflow_add-r-in-loop-k c = omega (arith, record-room (goal.at.overflow_add-r-in-loop-k c).Joined-last-key)
-
-pub put_word-requires-in-loop-k : goal.put_word-requires-in-loop-k
-put_word-requires-in-loop-k c = node_room (goal.at.put_word-requires-in-loop-k c).After-put_word
-
-pub shape_of-sheet : goal.shape_of-sheet
-shape_of-sheet c = c.loop-k.invariant.0

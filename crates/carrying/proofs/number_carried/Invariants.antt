@@ -1,5 +1,4 @@
 -- `carrying::number_carried` meets its contract. The loop's invariant: the nodes of the words before k have their numbers (`Placing`). Assumes nothing.
-use Prim.Native.Nat.{◌-◌}
 use mathlib.Core.Path.{◌≡◌}
 use lib.ListN.{length}
 use Rattle.words.specs.Words.{word_at}
@@ -8,6 +7,3 @@ use Rattle.carrying.proofs.number_carried.Given as goal
 
 abbrev pub invariant-loop-k : goal.invariant-loop-k
 invariant-loop-k l = (length l.sheet ≡ length l.initial.sheet) × Placing (word_at l.initial.sheet) (word_at l.sheet) l.p l.c l.end l.h l.r l.last l.k
-
-abbrev pub decreases-loop-k : goal.decreases-loop-k
-decreases-loop-k l = l.end - l.k

@@ -30,6 +30,3 @@ pub returns-then-few : goal.returns-then-few
 unfolding carry key_of
 returns-then-few c =
     rw (c.if-few.true, ← c.turned_by.ensures)
-
-pub returns : goal.returns
-returns c = rw c.if-few.false c.normal_word.ensures

@@ -1,24 +1,25 @@
 -- `checking::check` meets its contract: as every operation begins, and a blank sheet. Assumes nothing.
 use mathlib.Core.Path.{refl, sym}
 use native.Mathlib.Omega.{arith}
-use Rattle.checking.proofs.Accepting.{checking_is, few_nodes, shape_nodes}
+use Rattle.rules.proofs.Turns.{err_on}
+use Rattle.checking.proofs.Accepting.{checking_is, few_nodes, refused_as}
 use Rattle.checking.proofs.Lending.{handed_back, places_left, blanked}
 use Rattle.checking.proofs.check.Goals as goal
 
-pub overflow_add-shape : goal.overflow_add-shape
-overflow_add-shape c = record { fits = omega (arith, few_nodes c.begin-checked.ensures c.in-Table.is) }
+pub returns-in_err-header : goal.returns-in_err-header
+returns-in_err-header c =
+    let B = c.begin.ensures in
+    let q = c.in_err-header.was {u = tt} in
+    (refused_as B _ _ q c.from_residual.ensures.1, handed_back B q)
+
+pub overflow_add-nodes : goal.overflow_add-nodes
+overflow_add-nodes c = record { fits = omega (arith, few_nodes c.begin.ensures (c.in_ok-header.was {u = tt})) }
 
 pub blank-requires : goal.blank-requires
-blank-requires c =
-    let B = c.begin-checked.ensures in
-    let q = c.in-Table.is in
-    omega (arith, places_left B q (shape_nodes B q))
+blank-requires c = omega (arith, places_left c.begin.ensures (c.in_ok-header.was {u = tt}))
 
-pub returns-in-Table : goal.returns-in-Table
-returns-in-Table c =
-    let B = c.begin-checked.ensures in
-    let q = c.in-Table.is in
-    (sym (checking_is B q), blanked B q (shape_nodes B q) _ _ refl c.blank.ensures)
-
-pub returns-in_default : goal.returns-in_default
-returns-in_default c = let B = c.begin-checked.ensures in (B.answers, handed_back B c.in_default.is)
+pub returns : goal.returns
+returns c =
+    let B = c.begin.ensures in
+    let q = c.in_ok-header.was {u = tt} in
+    (sym (checking_is B q), blanked B q _ _ refl c.blank.ensures)

@@ -1,39 +1,32 @@
 -- `checking::test` meets its contract: as every operation begins, then `test_setup` from the root edge. Assumes nothing.
-use mathlib.Core.Path.{refl, sym, subst}
+use mathlib.Core.Path.{refl}
 use native.Mathlib.Omega.{arith}
-use Rattle.checking.specs.Inner.{IsRefused}
 use Rattle.checking.specs.Operations.{test_setup, testing}
-use Rattle.checking.proofs.Accepting.{handed_on, table_long, table_holds, root_within, answered}
+use Rattle.checking.proofs.Accepting.{handed_on, header_is, few_nodes, root_within, answered}
 use Rattle.checking.proofs.Lending.{handed_back, places_left, blanked}
 use Rattle.checking.proofs.test.Goals as goal
 
-pub refusal_of-requires : goal.refusal_of-requires
-refusal_of-requires c = subst IsRefused (sym c.in_default.is) tt
-
-pub returns-in_default : goal.returns-in_default
+pub returns-in_err-header : goal.returns-in_err-header
 unfolding testing
-returns-in_default c =
-    let B = c.begin-checked.ensures in
-    (handed_on B _ _ _ c.refusal_of.ensures, handed_back B c.in_default.is)
-
-pub header_of-header-requires : goal.header_of-header-requires
-header_of-header-requires c = table_long c.begin-checked.ensures c.in-Table.is
+returns-in_err-header c =
+    let B = c.begin.ensures in
+    let q = c.in_err-header.was {u = tt} in
+    (handed_on B _ _ _ q c.from_residual.ensures.1, handed_back B q)
 
 pub overflow_add-header : goal.overflow_add-header
-overflow_add-header c = record { fits = omega (arith, (table_holds c.begin-checked.ensures c.in-Table.is c.header_of-header.ensures).few) }
+overflow_add-header c = record { fits = omega (arith, few_nodes c.begin.ensures (c.in_ok-header.was {u = tt})) }
 
 pub blank-requires : goal.blank-requires
-blank-requires c = omega (arith, places_left c.begin-checked.ensures c.in-Table.is c.header_of-header.ensures.nodes_is)
+blank-requires c = omega (arith, places_left c.begin.ensures (c.in_ok-header.was {u = tt}))
 
 pub test_setup-requires : goal.test_setup-requires
 test_setup-requires c =
-    let h = c.header_of-header.ensures in
-    (root_within c.begin-checked.ensures c.in-Table.is h, h.few_settings)
+    let q = c.in_ok-header.was {u = tt} in
+    (root_within c.begin.ensures q, (header_is c.begin.ensures q).few_settings)
 
 pub returns : goal.returns
 unfolding testing
 returns c =
-    let B = c.begin-checked.ensures in
-    let q = c.in-Table.is in
-    let h = c.header_of-header.ensures in
-    (answered B q h (test_setup _) _ c.test_setup.ensures, blanked B q h.nodes_is _ _ refl c.blank.ensures)
+    let B = c.begin.ensures in
+    let q = c.in_ok-header.was {u = tt} in
+    (answered B q (test_setup _) _ c.test_setup.ensures, blanked B q _ _ refl c.blank.ensures)

@@ -15,14 +15,14 @@ pub ready_all-requires : goal.ready_all-requires
 ready_all-requires c =
     let p = c.requires in
     let e = c.explore-found.ensures in
-    let A = subst (Outcome _ _) c.in-All.is e.1 in
+    let A = subst (Outcome _ _) c.in-Some.is e.1 in
     (omega (arith, p.2, e.0), A.few, A.inside)
 
 pub write_root-requires : goal.write_root-requires
 write_root-requires c =
     let p = c.requires in
     let e = c.explore-found.ensures in
-    let A = subst (Outcome _ _) c.in-All.is e.1 in
+    let A = subst (Outcome _ _) c.in-Some.is e.1 in
     let r = c.ready_all.ensures in
     pairs_diagram _ _ _ _ _ _ _ _ _ _ A r.0 (omega (arith, p.2, e.0, r.1)) p.0.few_settings
 
@@ -30,7 +30,7 @@ pub returns : goal.returns
 returns c =
     let p = c.requires in
     let e = c.explore-found.ensures in
-    let A = subst (Outcome _ _) c.in-All.is e.1 in
+    let A = subst (Outcome _ _) c.in-Some.is e.1 in
     let r = c.ready_all.ensures in
     pairs_fit _ _ _ _ _ _ _ _ (omega (arith, A.counted, A.few)) _ _
     (writes_same _ _ _ (λ x l. first_means _ _ _ _ _ _ _ _ _ _ A r.0 (omega (arith, p.1.few)) x) (c.write_root.ensures.writes _ (pairs_mean _ _ _ _ _ _ _ _ _ _ A r.0)))

@@ -6,11 +6,6 @@ use Rattle.words.proofs.Stores.{stored, stored_long}
 use Rattle.compiling.proofs.Copying.{copied_under}
 use Rattle.compiling.proofs.write_table.Goals as goal
 
-pub copy_records-requires : goal.copy_records-requires
-copy_records-requires c =
-    let p = c.requires in
-    (p.0, omega (arith, p.1, stored_long _ _ _ _ c.put_word.ensures (omega (arith, p.1))))
-
 pub returns : goal.returns
 returns c =
     let p = c.requires in

@@ -1,11 +1,12 @@
 -- `console::setupbook_make_proper` meets its contract. Assumes nothing.
-use mathlib.Core.Path.{ap, ◌∙◌}
+use Prim.Native.Nat.{ℕ}
 use Rattle.tightening.proofs.Promised.{as_defined}
-use Rattle.telling.specs.Told.{single, returned, told}
+use Rattle.telling.specs.Told.{single}
+use Rattle.telling.proofs.Telling.{told_as}
 use Rattle.console.proofs.setupbook_make_proper.Goals as goal
 
 pub returns : goal.returns
 returns c =
     let e = c.make_proper-written.ensures in
-    let w = c.tell_written.ensures in
-    (w.0 ∙ ap returned e.answers, w.1 ∙ ap (told single) e.answers, as_defined e)
+    let w = told_as (λ (m : ℕ). m) single _ _ e.answers _ _ c.tell.ensures in
+    (w.0, w.1, as_defined e)

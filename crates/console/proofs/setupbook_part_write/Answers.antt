@@ -7,10 +7,10 @@ use Rattle.parts.proofs.Bounds.{part_place}
 use Rattle.console.proofs.setupbook_part_write.Goals as goal
 
 pub pack_refusal-requires : goal.pack_refusal-requires
-pack_refusal-requires c = part_place _ _ _ _ _ _ _ (sym c.part_write-written.ensures.answers ∙ ap written_as c.in-Refused.is)
+pack_refusal-requires c = part_place _ _ _ _ _ _ _ (sym c.part_write-written.ensures.answers ∙ ap written_as c.in-Err.is)
 
-pub returns-in-Bytes : goal.returns-in-Bytes
-returns-in-Bytes c = let e = c.part_write-written.ensures in (packed_value _ _ _ e.answers _ (ap written_as c.in-Bytes.is), as_defined e)
+pub returns-in-Ok : goal.returns-in-Ok
+returns-in-Ok c = let e = c.part_write-written.ensures in (packed_value _ _ _ e.answers _ (ap written_as c.in-Ok.is), as_defined e)
 
-pub returns-in-Refused : goal.returns-in-Refused
-returns-in-Refused c = let e = c.part_write-written.ensures in (packed_refusal _ _ _ e.answers _ _ _ (ap written_as c.in-Refused.is) c.pack_refusal.ensures, as_defined e)
+pub returns-in-Err : goal.returns-in-Err
+returns-in-Err c = let e = c.part_write-written.ensures in (packed_refusal _ _ _ e.answers _ _ _ (ap written_as c.in-Err.is) c.pack_refusal.ensures, as_defined e)

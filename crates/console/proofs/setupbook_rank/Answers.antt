@@ -6,10 +6,10 @@ use Rattle.ranking.proofs.Bounds.{ranking_place}
 use Rattle.console.proofs.setupbook_rank.Goals as goal
 
 pub pack_refusal-requires : goal.pack_refusal-requires
-pack_refusal-requires c = ranking_place _ _ _ _ _ (sym c.rank-ranked.ensures.0 ∙ ap ranked_as c.in-Refused.is)
+pack_refusal-requires c = ranking_place _ _ _ _ _ (sym c.rank-ranked.ensures.0 ∙ ap ranked_as c.in-Err.is)
 
-pub returns-in-At : goal.returns-in-At
-returns-in-At c = let e = c.rank-ranked.ensures in (packed_value _ _ _ e.0 _ (ap ranked_as c.in-At.is), e.1)
+pub returns-in-Ok : goal.returns-in-Ok
+returns-in-Ok c = let e = c.rank-ranked.ensures in (packed_value _ _ _ e.0 _ (ap ranked_as c.in-Ok.is), e.1)
 
-pub returns-in-Refused : goal.returns-in-Refused
-returns-in-Refused c = let e = c.rank-ranked.ensures in (packed_refusal _ _ _ e.0 _ _ _ (ap ranked_as c.in-Refused.is) c.pack_refusal.ensures, e.1)
+pub returns-in-Err : goal.returns-in-Err
+returns-in-Err c = let e = c.rank-ranked.ensures in (packed_refusal _ _ _ e.0 _ _ _ (ap ranked_as c.in-Err.is) c.pack_refusal.ensures, e.1)

@@ -2,12 +2,12 @@
 use Rattle.correcting.proofs.Correcting.{beside_asks, nearest_asks, of_all}
 use Rattle.correcting.proofs.nearest_under.Goals as goal
 
-pub beside-y-requires : goal.beside-y-requires
-beside-y-requires c = beside_asks _ _ _ _ _ _ c.requires
+pub beside-requires : goal.beside-requires
+beside-requires c = beside_asks _ _ _ _ _ _ c.requires
 
-pub returns-then-y-x : goal.returns-then-y-x
-returns-then-y-x c =
-    of_all _ _ _ _ _ _ c.requires _ (c.beside-y.ensures c.if-y-x.true)
+pub returns-in-Some : goal.returns-in-Some
+returns-in-Some c =
+    of_all _ _ _ _ _ _ c.requires _ c.in-Some.ensures
 
 pub nearest-requires : goal.nearest-requires
 nearest-requires c =

@@ -5,14 +5,10 @@ use borrow.Author.Rules.{rules}
 use Rattle.words.specs.Words.{word_at, put_word}
 use Rattle.words.specs.Swap.{swap}
 use Rattle.diagram.specs.Reading.{share}
-use Rattle.diagram.proofs.Inside.{within_room}
 use Rattle.counting.specs.Inner.{stored}
 use Rattle.counting.proofs.Shares.{high_filled, low_opens, share_sum}
 use Rattle.counting.proofs.enter_node.Goals as goal
 use Rattle.counting.proofs.enter_node.Goals.{After-share_of}
-
-pub record_at-record-requires : goal.record_at-record-requires
-record_at-record-requires c = let p = c.requires in (p.0, within_room _ _ p.1.within)
 
 pub load-requires : goal.load-requires
 load-requires c =
@@ -33,6 +29,3 @@ pub returns : goal.returns
 unfolding stored
 returns c =
     c.store.ensures ∙ ap (put_word c.args.sheet.now c.args.k.0) (ap swap (halves (goal.at.returns c).After-share_of).0)
-
-pub overflow_add-s : goal.overflow_add-s
-overflow_add-s c = record { fits = (halves c).1 }

@@ -14,7 +14,7 @@ branch-table-requires c =
     let q = at_top _ _ _ _ p.0 c.if-way-h.false in
     (q.1, omega (arith, q.0), p.2)
 
-pub returns : goal.returns
-returns c =
+pub returns-else-way-h : goal.returns-else-way-h
+returns-else-way-h c =
     let p = c.requires in
     from_top _ _ _ _ p.0 c.if-way-h.false _ c.branch-table.ensures

@@ -28,8 +28,8 @@ returns-then-choice c =
     goes_high _ _ _ _ p.0 p.1 (le_refl _) _ c.node.ensures _ _ _ c.record_at.ensures _ _ c.cofactors-sides.ensures _ _ c.look_below-low.ensures
     _ _ c.choose-choice.ensures c.if-choice.true refl _ c.node-then-choice.ensures c.height_at.ensures.0 refl
 
-pub returns : goal.returns
-returns c =
+pub returns-else-choice : goal.returns-else-choice
+returns-else-choice c =
     let p = c.requires in
     goes_low _ _ _ _ p.0 p.1 (le_refl _) _ c.node.ensures _ _ _ c.record_at.ensures _ _ c.cofactors-sides.ensures _ _ c.look_below-low.ensures
     _ _ c.choose-choice.ensures c.if-choice.false refl refl refl

@@ -21,4 +21,4 @@ pub loop-h-preserved : goal.loop-h-preserved
 loop-h-preserved c = let a = c.advance-way.ensures in (a.stands, a.chosen _ _ _ c.loop-h.invariant.1)
 
 pub returns : goal.returns
-returns c = chosen_last _ _ _ _ _ _ _ _ c.loop-h-test.false c.loop-h.invariant.1
+returns c = chosen_last _ _ _ _ _ _ _ _ (omega (arith, c.loop-h-test.false)) c.loop-h.invariant.1

@@ -5,6 +5,3 @@ use Rattle.descent.proofs.descend.Given as goal
 
 abbrev pub invariant-loop-h : goal.invariant-loop-h
 invariant-loop-h l = Stands l.table l.sheet l.h l.way × ChosenBy (word_at l.table) l.n l.initial.way.edge.value l.initial.way.left l.h l.way
-
-abbrev pub decreases-loop-h : goal.decreases-loop-h
-decreases-loop-h l = l.h

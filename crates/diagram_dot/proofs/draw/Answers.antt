@@ -18,6 +18,6 @@ table_holds t s n N f e =
     let A = (check_accepted t (length s / 8) (λ N. N + 1) n N (sym e)).0 in
     record { long = omega (arith, A.long); few = A.few; few_settings = (shape_fits t s n N f e).0; ordered = A.proper.reduced.ordered }
 
-pub draw_accepted-requires : goal.draw_accepted-requires
-draw_accepted-requires g c =
-    table_holds _ _ _ _ (λ i. omega (arith, c.type_inv.table i)) (sym (ap checked_as c.in-Table.is) ∙ c.check-checked.ensures.0)
+pub invariant_of-drawing : goal.invariant_of-drawing
+invariant_of-drawing g c =
+    record { holds = table_holds _ _ _ _ (λ i. omega (arith, c.type_inv.table i)) (sym (ap checked_as c.in-Ok.is) ∙ c.check.ensures.0) }

@@ -1,6 +1,8 @@
 -- `distances::setting` meets its contract. Assumes nothing.
-use Rattle.distances.proofs.Settings.{bit_code}
+use mathlib.Core.Path.{refl}
+use Rattle.diagram.specs.Meaning.{bit}
 use Rattle.distances.proofs.setting.Goals as goal
 
 pub returns : goal.returns
-returns c = let a = c.args in bit_code a.h a.x.0
+unfolding bit
+returns c = refl

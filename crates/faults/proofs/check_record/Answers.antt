@@ -4,6 +4,7 @@ use mathlib.Core.Path.{◌≡◌, refl, sym, ◌∙◌}
 use mathlib.Core.Bool.{cond}
 use lib.Dec.{eqb, leb}
 use borrow.Author.Tests.{eq-eqb, ne_eqb, le-leb, lt-leb}
+use borrow.Author.Rules.{rules}
 use Rattle.words.specs.Words.{word_at}
 use Rattle.diagram.specs.Answer.{refusal, pass}
 use Rattle.diagram.specs.Rules.{check_record}
@@ -14,10 +15,10 @@ use Rattle.faults.proofs.check_record.Goals.{After-has_misled-misled}
 pub has_misled-misled-requires : goal.has_misled-misled-requires
 has_misled-misled-requires c =
     let p = c.requires in
-    ((fields_of _ c.args.n _ _ _ _ _ _ p.0 p.2 p.3 c.of-record.ensures).height_is, p.1)
+    ((fields_of _ c.args.n _ _ _ _ _ _ p.0 p.2 p.3 c.from-record.ensures).height_is, p.1)
 
 -- the rules in their order, by what the tests of the height and of the edges have given
-by_rules : (c : After-has_misled-misled) → let a = c.args in let k = a.k.0 in let r = c.of-record.result in
+by_rules : (c : After-has_misled-misled) → let a = c.args in let k = a.k.0 in let r = c.from-record.result in
     check_record (word_at a.table.now) a.n k
     ≡ cond c.is_unfit-unfit.result (refusal 4 k)
     (cond c.has_misled-misled.result (refusal 6 k)
@@ -25,7 +26,7 @@ by_rules : (c : After-has_misled-misled) → let a = c.args in let k = a.k.0 in 
     (cond (eqb (r.high.value % 2) 1) (refusal 7 k) (cond (eqb r.high.value r.low.value) (refusal 8 k) pass))))
 by_rules c =
     let p = c.requires in
-    by_tests _ _ _ _ _ _ _ _ p.0 p.2 p.3 c.of-record.ensures _ _ _ c.is_unfit-unfit.ensures c.has_misled-misled.ensures refl
+    by_tests _ _ _ _ _ _ _ _ p.0 p.2 p.3 c.from-record.ensures _ _ _ c.is_unfit-unfit.ensures c.has_misled-misled.ensures refl
 
 pub returns-then-unfit : goal.returns-then-unfit
 returns-then-unfit c = sym (by_rules (goal.at.returns-then-unfit c).After-has_misled-misled ∙ rw c.if-unfit.true)
@@ -40,10 +41,14 @@ pub returns-then-flagged : goal.returns-then-flagged
 returns-then-flagged c =
     sym (by_rules (goal.at.returns-then-flagged c).After-has_misled-misled ∙ rw (c.if-unfit.false, c.if-misled.false, lt-leb _ _ c.if-falls.false, sym c.flagged.ensures ∙ c.if-flagged.true))
 
-pub returns-then-record : goal.returns-then-record
-returns-then-record c =
-    sym (by_rules (goal.at.returns-then-record c).After-has_misled-misled ∙ rw (c.if-unfit.false, c.if-misled.false, lt-leb _ _ c.if-falls.false, sym c.flagged.ensures ∙ c.if-flagged.false, eq-eqb _ _ c.if-record.true))
+pub returns-then-eq : goal.returns-then-eq
+returns-then-eq c =
+    let r = c.from-record.result in
+    let same : c.eq.result ≡ eqb r.high.value r.low.value = search rules in
+    sym (by_rules (goal.at.returns-then-eq c).After-has_misled-misled ∙ rw (c.if-unfit.false, c.if-misled.false, lt-leb _ _ c.if-falls.false, sym c.flagged.ensures ∙ c.if-flagged.false, sym same ∙ c.if-eq.true))
 
 pub returns : goal.returns
 returns c =
-    sym (by_rules (goal.at.returns c).After-has_misled-misled ∙ rw (c.if-unfit.false, c.if-misled.false, lt-leb _ _ c.if-falls.false, sym c.flagged.ensures ∙ c.if-flagged.false, ne_eqb _ _ c.if-record.false))
+    let r = c.from-record.result in
+    let same : c.eq.result ≡ eqb r.high.value r.low.value = search rules in
+    sym (by_rules (goal.at.returns c).After-has_misled-misled ∙ rw (c.if-unfit.false, c.if-misled.false, lt-leb _ _ c.if-falls.false, sym c.flagged.ensures ∙ c.if-flagged.false, sym same ∙ c.if-eq.false))

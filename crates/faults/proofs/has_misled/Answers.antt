@@ -3,7 +3,7 @@ use mathlib.Core.Path.{sym, ◌∙◌}
 use Rattle.faults.proofs.has_misled.Goals as goal
 
 pub returns-then-is_misled : goal.returns-then-is_misled
-returns-then-is_misled c tall = rw (sym (c.is_misled.ensures tall) ∙ c.if-is_misled.true)
+returns-then-is_misled c tall = rw (sym (c.is_misled.ensures tall) ∙ c.if-is_misled.true) c.if-is_misled.true
 
-pub returns : goal.returns
-returns c tall = rw (sym (c.is_misled.ensures tall) ∙ c.if-is_misled.false) (c.is_misled-2.ensures tall)
+pub returns-else-is_misled : goal.returns-else-is_misled
+returns-else-is_misled c tall = rw (sym (c.is_misled.ensures tall) ∙ c.if-is_misled.false) (c.is_misled-else-is_misled.ensures tall)

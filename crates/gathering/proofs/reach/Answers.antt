@@ -11,20 +11,11 @@ use Rattle.gathering.proofs.Turning.{turn_inside, turn_first, turn_done, turn_ma
 use Rattle.gathering.proofs.reach.Goals as goal
 use Rattle.gathering.proofs.reach.Goals.{After-meet-arg-1, After-node, After-node-in-loop-i, After-record_at-record, At-loop-i}
 
-pub bounds-sheet-p : goal.bounds-sheet-p
-bounds-sheet-p c = let p = c.requires in omega (arith, p.0, within_place _ _ _ p.1)
-
 -- the sink has a mark: nothing is met yet
 none-met : (c : After-meet-arg-1) → let a = c.args in Met (word_at a.table.now) (set a.sheet.now (32 * a.p) 1) a.p 0 0 a.v.0
 none-met c =
     let p = c.requires in
     met_none _ c.args.sheet.now _ _ _ p.0 (omega (arith, within_place _ _ _ p.1)) p.2 refl
-
-pub meet-count-requires : goal.meet-count-requires
-meet-count-requires c =
-    let p = c.requires in
-    let l = within_place _ _ _ p.1 in
-    (simp length-set p.0, l, omega arith, (none-met c).bits _ l)
 
 -- the first node is met
 first : (c : At-loop-i) → let a = c.args in let m = c.meet-count in
@@ -34,9 +25,6 @@ first c =
     let M = none-met (goal.at.At-loop-i c).After-meet-arg-1 in
     let X = c.meet-count.ensures in
     (met_next _ _ _ _ _ _ _ _ _ M l (omega arith) X (λ n. absurd (n refl)), X.marked)
-
-pub loop-i-init : goal.loop-i-init
-loop-i-init c = (refl, λ root l M m. (M, m))
 
 -- at the loop's head
 met : (c : At-loop-i) → let a = c.args in
@@ -116,6 +104,3 @@ returns c =
     let m = met (goal.at.returns c).At-loop-i in
     let e : c.loop-i.i ≡ c.loop-i.count = omega (arith, m.0.up, c.loop-i-test.false) in
     (long (goal.at.returns c).At-loop-i, met_all e m.0 m.1)
-
-pub shape_of-sheet : goal.shape_of-sheet
-shape_of-sheet c = long (goal.at.shape_of-sheet c).At-loop-i

@@ -8,9 +8,6 @@ use Rattle.keys.proofs.Inserting.{open_below, inserted}
 use Rattle.keys.proofs.insert_at.Goals as goal
 use Rattle.keys.proofs.insert_at.Goals.{After-put_word}
 
-pub put_word-requires : goal.put_word-requires
-put_word-requires c = let p = c.requires in omega (arith, p.0, p.3)
-
 below : (c : After-put_word) → c.args.slot < c.args.p
 below c = let p = c.requires in open_below _ _ _ _ p.5 (omega (arith, p.3))
 

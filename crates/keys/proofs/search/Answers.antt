@@ -16,13 +16,7 @@ below : (c : In-loop-d) → c.loop-d.slot < c.args.p
 below c = slot_below _ _ _ _ c.requires.3 c.requires.0 _ _ c.loop-d.invariant (left c)
 
 pub overflow_add-p : goal.overflow_add-p
-overflow_add-p c = omega (arith, c.requires.1, c.strides_of-turns.ensures.1)
-
-pub overflow_mul-p : goal.overflow_mul-p
-overflow_mul-p c = omega (arith, c.requires.1)
-
-pub overflow_add-p-in-loop-d : goal.overflow_add-p-in-loop-d
-overflow_add-p-in-loop-d c = omega (arith, c.requires.1, below c)
+overflow_add-p c = omega (arith, c.requires.1, below c)
 
 pub word_at-held-requires : goal.word_at-held-requires
 word_at-held-requires c = omega (arith, c.requires.1, below c)
@@ -53,9 +47,3 @@ loop-d-preserved c =
 pub returns : goal.returns
 returns c =
     probe_round _ _ _ _ c.requires.3 c.requires.0 _ _ c.loop-d.invariant (omega (arith, c.loop-d.invariant.bound, c.loop-d-test.false, c.strides_of-turns.ensures.0))
-
-pub mixed_of-mix-requires : goal.mixed_of-mix-requires
-mixed_of-mix-requires c = c.requires.2
-
-pub stride_of-by-requires : goal.stride_of-by-requires
-stride_of-by-requires c = c.requires.0

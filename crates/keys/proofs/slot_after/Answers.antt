@@ -6,5 +6,5 @@ use Rattle.keys.proofs.slot_after.Goals as goal
 pub returns-then-next-p : goal.returns-then-next-p
 returns-then-next-p c = sym (further_near _ _ _ c.if-next-p.true)
 
-pub returns : goal.returns
-returns c = sym (further_round _ _ _ c.if-next-p.false)
+pub returns-else-next-p : goal.returns-else-next-p
+returns-else-next-p c = sym (further_round _ _ _ c.if-next-p.false)

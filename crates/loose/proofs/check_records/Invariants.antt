@@ -1,5 +1,5 @@
 -- `loose::check_records` meets its contract. The loop's invariant: the first k records pass. Assumes nothing.
-use Prim.Native.Nat.{suc, ◌-◌, ◌≤◌}
+use Prim.Native.Nat.{suc}
 use mathlib.Core.Path.{◌≡◌}
 use Rattle.words.specs.Words.{word_at}
 use Rattle.diagram.specs.Answer.{pass, each}
@@ -7,7 +7,4 @@ use Rattle.loose.specs.Rules.{check_loose_record}
 use Rattle.loose.proofs.check_records.Given as goal
 
 abbrev pub invariant-loop-k : goal.invariant-loop-k
-invariant-loop-k l = (l.k ≤ l.nodes) × (each (λ i. check_loose_record (word_at l.table) l.n l.nodes (suc i)) l.k ≡ pass)
-
-abbrev pub decreases-loop-k : goal.decreases-loop-k
-decreases-loop-k l = l.nodes - l.k
+invariant-loop-k l = each (λ i. check_loose_record (word_at l.table) l.n l.nodes (suc i)) l.k ≡ pass

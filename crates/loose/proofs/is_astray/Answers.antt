@@ -11,6 +11,6 @@ returns-then-nodes-node c = rw (← c.node-node.ensures, lt-ltb _ _ c.if-nodes-n
 pub height_at-requires : goal.height_at-requires
 height_at-requires c = omega (arith, c.if-nodes-node.false, c.requires)
 
-pub returns : goal.returns
+pub returns-else-nodes-node : goal.returns-else-nodes-node
 unfolding astray
-returns c = rw (← c.node-node.ensures, le-ltb _ _ c.if-nodes-node.false, c.height_at.ensures.0)
+returns-else-nodes-node c = rw (← c.node-node.ensures, le-ltb _ _ c.if-nodes-node.false, c.height_at.ensures.0)

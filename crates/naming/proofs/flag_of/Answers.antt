@@ -1,9 +1,7 @@
 -- `naming::flag_of` meets its contract. Assumes nothing.
-use Rattle.naming.proofs.Readying.{flag_named, flag_other}
+use borrow.Author.Rules.{rules}
+use Rattle.naming.proofs.Readying.{flag_is}
 use Rattle.naming.proofs.flag_of.Goals as goal
 
-pub returns-then-named_by : goal.returns-then-named_by
-returns-then-named_by c = flag_named _ _ _ _ c.named_by.ensures c.if-named_by.true
-
 pub returns : goal.returns
-returns c = flag_other _ _ _ _ c.named_by.ensures c.if-named_by.false
+returns c = flag_is _ _ _ _ c.names.ensures _ (search rules)

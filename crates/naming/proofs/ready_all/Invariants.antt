@@ -1,5 +1,4 @@
 -- `naming::ready_all` meets its contract. The loop's invariant: the first i pairs are made ready (`AllReady`). Assumes nothing.
-use Prim.Native.Nat.{◌-◌, ◌≤◌}
 use mathlib.Core.Path.{◌≡◌}
 use lib.ListN.{length}
 use Rattle.words.specs.Words.{word_at}
@@ -7,7 +6,4 @@ use Rattle.naming.specs.Inner.{AllReady}
 use Rattle.naming.proofs.ready_all.Given as goal
 
 abbrev pub invariant-loop-i : goal.invariant-loop-i
-invariant-loop-i l = (l.i ≤ l.count) × (length l.sheet ≡ length l.initial.sheet) × AllReady l.op (word_at l.table1) (word_at l.table2) (word_at l.initial.sheet) (word_at l.sheet) l.p l.i
-
-abbrev pub decreases-loop-i : goal.decreases-loop-i
-decreases-loop-i l = l.count - l.i
+invariant-loop-i l = (length l.sheet ≡ length l.initial.sheet) × AllReady l.op (word_at l.table1) (word_at l.table2) (word_at l.initial.sheet) (word_at l.sheet) l.p l.i

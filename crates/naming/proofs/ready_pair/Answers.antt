@@ -9,16 +9,8 @@ use Rattle.naming.proofs.Readying.{readied_tall, readied_sink}
 use Rattle.naming.proofs.ready_pair.Goals as goal
 use Rattle.naming.proofs.ready_pair.Goals.{After-put_word}
 
-pub pair_height-h-requires : goal.pair_height-h-requires
-pair_height-h-requires c = rw c.word_at-pair.ensures c.requires.2
-
 room : (c : After-put_word) → 8 * (2 * c.args.p + c.args.i) + 8 ≤ length c.args.sheet.now
 room c = let p = c.requires in omega (arith, p.0, p.1)
-
-pub put_word-requires-then-h-eq0 : goal.put_word-requires-then-h-eq0
-put_word-requires-then-h-eq0 c =
-    let p = c.requires in
-    omega (arith, p.0, p.1, stored_long _ _ _ _ c.put_word.ensures (room (goal.at.put_word-requires-then-h-eq0 c).After-put_word))
 
 pub returns-then-h-eq0 : goal.returns-then-h-eq0
 returns-then-h-eq0 c =
@@ -36,6 +28,3 @@ returns-else-h-eq0 c =
     let p = c.requires in
     let e = c.put_word.ensures in
     (readied_tall _ _ _ _ _ _ _ _ _ p.1 c.word_at-pair.ensures c.pair_height-h.ensures.0 (stored _ _ _ _ e (room (goal.at.returns-else-h-eq0 c).After-put_word) (search rules)) c.if-h-eq0.false, stored_long _ _ _ _ e (room (goal.at.returns-else-h-eq0 c).After-put_word))
-
-pub shape_of-sheet-then-h-eq0 : goal.shape_of-sheet-then-h-eq0
-shape_of-sheet-then-h-eq0 c = (returns-then-h-eq0 c).1

@@ -1,18 +1,13 @@
-use mathlib.Core.Path.{refl}
+use mathlib.Core.Path.{refl, ap}
 use mathlib.Core.Bool.{false}
 use native.Mathlib.Omega.{arith}
 use lib.Dec.{ltb}
+use Rattle.diagram.specs.Count.{indicator}
 use Rattle.walking.specs.Inner.{Forks}
-use Rattle.nearing.proofs.Entering.{sides_bytes, digit_le}
-use Rattle.nearing.proofs.Going.{goes_first, goes_last, goes_next}
+use Rattle.nearing.proofs.Entering.{sides_bytes}
+use Rattle.nearing.proofs.Going.{goes_last, goes_next}
 use Rattle.nearing.proofs.nearest.Goals as goal
 use Rattle.nearing.proofs.nearest.Goals.{After-fork_at-fork}
-
-pub loop-edge-init : goal.loop-edge-init
-loop-edge-init c = goes_first _ _ _ _ c.requires
-
-pub fork_at-fork-requires : goal.fork_at-fork-requires
-fork_at-fork-requires c = (c.loop-edge.invariant.lies, omega (arith, c.node.ensures, c.loop-edge-test.true))
 
 forks : (c : After-fork_at-fork) → let r = c.fork_at-fork.result in Forks c.args.table.now c.loop-edge.invariant.lies.0 c.loop-edge.edge.value r.height r.sides.high.value r.sides.low.value
 forks c = c.fork_at-fork.ensures _ c.loop-edge.invariant.lies.1
@@ -22,7 +17,7 @@ setting-requires c = let F = forks (goal.at.setting-requires c).After-fork_at-fo
 
 pub costs_of-costs-requires : goal.costs_of-costs-requires
 costs_of-costs-requires c =
-    (sides_bytes _ _ _ _ _ _ _ _ _ c.requires.filled (forks (goal.at.costs_of-costs-requires c).After-fork_at-fork) (omega (arith, c.loop-edge.invariant.inside)), digit_le _ _ _ c.setting.ensures)
+    sides_bytes _ _ _ _ _ _ _ _ _ c.requires.filled (forks (goal.at.costs_of-costs-requires c).After-fork_at-fork) (omega (arith, c.loop-edge.invariant.inside))
 
 pub set_setting-y-requires : goal.set_setting-y-requires
 set_setting-y-requires c =
@@ -31,7 +26,7 @@ set_setting-y-requires c =
 
 pub loop-edge-preserved : goal.loop-edge-preserved
 loop-edge-preserved c =
-    goes_next _ _ _ _ _ _ c.loop-edge.invariant c.requires.filled _ _ _ (forks (goal.at.loop-edge-preserved c).After-fork_at-fork) _ c.setting.ensures _ _ c.costs_of-costs.ensures _ refl _ _ c.at-edge.ensures c.set_setting-y.ensures
+    goes_next _ _ _ _ _ _ c.loop-edge.invariant c.requires.filled _ _ _ (forks (goal.at.loop-edge-preserved c).After-fork_at-fork) _ (ap indicator c.setting.ensures) _ _ c.costs_of-costs.ensures _ refl _ _ c.at-edge.ensures c.set_setting-y.ensures
 
 pub loop-edge-smaller : goal.loop-edge-smaller
 loop-edge-smaller c =

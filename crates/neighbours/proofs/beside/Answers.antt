@@ -1,10 +1,7 @@
-use mathlib.Core.Path.{ap, ◌∙◌}
 use mathlib.Core.Bool.{false, not}
 use native.Mathlib.Omega.{arith}
-use lib.Dec.{eqb}
-use borrow.Author.Tests.{eq-eqb, ne_eqb}
 use Rattle.walking.specs.Inner.{Forks}
-use Rattle.neighbours.proofs.Seeking.{seeks_first, seeks_last, on_as, side_within, found_off, found_on, found_none}
+use Rattle.neighbours.proofs.Seeking.{seeks_first, seeks_last, side_within, found_off, found_on, found_none}
 use Rattle.neighbours.proofs.beside.Goals as goal
 use Rattle.neighbours.proofs.beside.Goals.{After-fork_at-fork, then-permitted_under+else-on, else-permitted_under}
 
@@ -21,31 +18,31 @@ pub setting-on-requires : goal.setting-on-requires
 setting-on-requires c = let F = forks c in (F.tall, omega (arith, F.few, (F.lies false).holds.few_settings))
 
 pub permitted_under-requires : goal.permitted_under-requires
-permitted_under-requires c = side_within _ _ _ _ _ _ (forks (goal.at.permitted_under-requires c).After-fork_at-fork) (not (eqb c.setting-on.result 1)) _ c.at.ensures
+permitted_under-requires c = side_within _ _ _ _ _ _ (forks (goal.at.permitted_under-requires c).After-fork_at-fork) (not c.setting-on.result) _ c.at.ensures
 
-pub set_setting-best-requires : goal.set_setting-best-requires
-set_setting-best-requires c =
-    let F = forks (goal.at.set_setting-best-requires c).After-fork_at-fork in
+pub set_setting-y-requires : goal.set_setting-y-requires
+set_setting-y-requires c =
+    let F = forks (goal.at.set_setting-y-requires c).After-fork_at-fork in
     (F.tall, omega (arith, F.few, (F.lies false).holds.few_settings), c.requires.1)
 
 pub returns-then-on : goal.returns-then-on
 returns-then-on c =
-    λ _. found_off _ _ _ _ _ c.loop-x.invariant _ _ _ (forks (goal.at.returns-then-on c).After-fork_at-fork) _ (on_as _ _ _ c.setting-on.ensures) _ c.at.ensures _ c.permitted_under.ensures c.if-permitted_under.true (eq-eqb _ _ c.if-on.true) _ c.set_setting-best.ensures
+    found_off _ _ _ _ _ c.loop-x.invariant _ _ _ (forks (goal.at.returns-then-on c).After-fork_at-fork) _ c.setting-on.ensures _ c.at.ensures _ c.permitted_under.ensures c.if-permitted_under.true c.if-on.true _ c.set_setting-y.ensures
 
 pub loop-x-preserved : goal.loop-x-preserved
 loop-x-preserved c =
     let K = c.loop-x.invariant in
-    let on = on_as _ _ _ c.setting-on.ensures in
+    let on = c.setting-on.ensures in
     let p = c.permitted_under.ensures in
     elim c.if-permitted_under.branch [
-      | then-permitted_under+else-on s ↦ found_on _ _ _ _ _ K _ _ _ (forks (goal.at.loop-x-preserved c).After-fork_at-fork) _ on _ c.at.ensures _ p s.if-permitted_under.true (ne_eqb _ _ s.if-on.false) _ _ (ap (λ v. v.0) s.best-is ∙ s.set_setting-best.ensures) c.at-edge.ensures
-      | else-permitted_under s ↦ rw (ap (λ v. v.0) s.best-is) (found_none _ _ _ _ _ K _ _ _ (forks (goal.at.loop-x-preserved c).After-fork_at-fork) _ on _ c.at.ensures _ p s.if-permitted_under.false _ c.at-edge.ensures)
+      | then-permitted_under+else-on s ↦ rw s.best-is (found_on _ _ _ _ _ K _ _ _ (forks (goal.at.loop-x-preserved c).After-fork_at-fork) _ on _ c.at.ensures _ p s.if-permitted_under.true s.if-on.false _ _ s.set_setting-y.ensures c.at-edge.ensures)
+      | else-permitted_under s ↦ rw s.best-is (found_none _ _ _ _ _ K _ _ _ (forks (goal.at.loop-x-preserved c).After-fork_at-fork) _ on _ c.at.ensures _ p s.if-permitted_under.false _ c.at-edge.ensures)
     ]
 
 pub loop-x-smaller : goal.loop-x-smaller
 loop-x-smaller c =
     let F = forks (goal.at.loop-x-smaller c).After-fork_at-fork in
-    rw c.at-edge.ensures (omega (arith, F.height_is, F.lower (eqb c.setting-on.result 1)))
+    rw c.at-edge.ensures (omega (arith, F.height_is, F.lower c.setting-on.result))
 
 pub returns : goal.returns
 returns c = seeks_last _ _ _ _ _ c.loop-x.invariant (omega (arith, c.node.ensures, c.loop-x-test.false))

@@ -2,8 +2,5 @@
 use Rattle.numbering.proofs.Keys.{image_is}
 use Rattle.numbering.proofs.image_of.Goals as goal
 
-pub edge_to-requires : goal.edge_to-requires
-edge_to-requires c = rw c.node.ensures c.requires
-
 pub returns : goal.returns
 returns c = image_is _ _ _ _ _ c.node.ensures c.edge_to.ensures c.turned_by.ensures

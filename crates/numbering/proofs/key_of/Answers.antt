@@ -2,12 +2,9 @@
 use Prim.Native.Nat.{◌<◌}
 use Rattle.words.specs.Words.{word_at}
 use Rattle.numbering.specs.Renewal.{Renewable}
-use Rattle.numbering.proofs.Keys.{place_live, key_dead, then_there, else_there, key_fits, key_is}
+use Rattle.numbering.proofs.Keys.{place_live, key_fits, key_is}
 use Rattle.numbering.proofs.key_of.Goals as goal
 use Rattle.numbering.proofs.key_of.Goals.{Else-word_at-eq0}
-
-pub returns-then-word_at-eq0 : goal.returns-then-word_at-eq0
-returns-then-word_at-eq0 c = key_dead _ _ _ _ c.word_at.ensures c.if-word_at-eq0.true
 
 -- the node is kept, and its record can be read off
 live : (c : Else-word_at-eq0) → 0 < word_at c.args.map.now c.args.v.0
@@ -16,17 +13,11 @@ live c = place_live _ _ _ c.word_at.ensures c.if-word_at-eq0.false
 renewable : (c : Else-word_at-eq0) → Renewable c.args.map.now c.args.word
 renewable c = c.requires.kept (live c)
 
-pub image_of-high-requires : goal.image_of-high-requires
-image_of-high-requires c = then_there _ _ _ _ _ (renewable (goal.at.image_of-high-requires c).Else-word_at-eq0) c.of-fields.ensures
-
-pub image_of-low-requires : goal.image_of-low-requires
-image_of-low-requires c = else_there _ _ _ _ _ (renewable (goal.at.image_of-low-requires c).Else-word_at-eq0) c.of-fields.ensures
-
 pub normal_word-requires : goal.normal_word-requires
 normal_word-requires c =
-    key_fits _ _ _ _ _ _ _ (renewable (goal.at.normal_word-requires c).Else-word_at-eq0) c.of-fields.ensures c.image_of-high.ensures c.image_of-low.ensures
+    key_fits _ _ _ _ _ _ _ (renewable (goal.at.normal_word-requires c).Else-word_at-eq0) c.from-fields.ensures c.image_of-high.ensures c.image_of-low.ensures
 
 pub returns : goal.returns
 returns c =
-    key_is _ _ _ _ _ _ _ (renewable (goal.at.returns c).Else-word_at-eq0) c.of-fields.ensures c.image_of-high.ensures c.image_of-low.ensures _ _ (live (goal.at.returns c).Else-word_at-eq0)
-    c.normal_word.ensures
+    key_is _ _ _ _ _ _ _ (renewable (goal.at.returns c).Else-word_at-eq0) c.from-fields.ensures c.image_of-high.ensures c.image_of-low.ensures _ _ (live (goal.at.returns c).Else-word_at-eq0)
+    c.normal_word.ensures _ c.flagged.ensures

@@ -1,12 +1,8 @@
 -- `pairing::cofactors_of` meets its contract. Assumes nothing.
 use mathlib.Core.Bool.{true, false}
 use Rattle.diagram.proofs.Cofactor.{passes_below, goes_on}
-use Rattle.diagram.proofs.Inside.{within_room}
 use Rattle.pairing.proofs.Pairs.{high_node}
 use Rattle.pairing.proofs.cofactors_of.Goals as goal
-
-pub height_at-requires : goal.height_at-requires
-height_at-requires c = rw c.node-node.ensures (within_room _ _ c.requires.0)
 
 pub returns-then-height_at-h : goal.returns-then-height_at-h
 returns-then-height_at-h c =

@@ -1,40 +1,32 @@
 -- `ranking::rank` meets its contract: as every operation begins, `rank_setup` from the root edge, and a blank sheet. Assumes nothing.
-use mathlib.Core.Path.{sym, subst}
 use native.Mathlib.Omega.{arith}
-use Rattle.checking.specs.Inner.{IsRefused}
-use Rattle.checking.proofs.Accepting.{handed_on, table_long, table_holds, answered}
+use Rattle.checking.proofs.Accepting.{handed_on, table_holds, answered}
 use Rattle.checking.proofs.Lending.{enough, handed_back, places_left, blanked, countable}
 use Rattle.ranking.specs.Operations.{rank_setup, ranking}
 use Rattle.ranking.proofs.rank.Goals as goal
 
-pub refusal_of-requires : goal.refusal_of-requires
-refusal_of-requires c = subst IsRefused (sym c.in_default.is) tt
-
-pub returns-in_default : goal.returns-in_default
+pub returns-in_err-header : goal.returns-in_err-header
 unfolding ranking
-returns-in_default c =
-    let B = c.begin-checked.ensures in
-    (handed_on B _ _ _ c.refusal_of.ensures, handed_back B c.in_default.is)
-
-pub header_of-header-requires : goal.header_of-header-requires
-header_of-header-requires c = table_long c.begin-checked.ensures c.in-Table.is
+returns-in_err-header c =
+    let B = c.begin.ensures in
+    let q = c.in_err-header.was {u = tt} in
+    (handed_on B _ _ _ q c.from_residual.ensures.1, handed_back B q)
 
 pub rank_setup-ranked-requires : goal.rank_setup-ranked-requires
-rank_setup-ranked-requires c = countable c.begin-checked.ensures c.in-Table.is c.header_of-header.ensures (enough _)
+rank_setup-ranked-requires c = countable c.begin.ensures (c.in_ok-header.was {u = tt}) (enough _)
 
 pub overflow_add-header : goal.overflow_add-header
 overflow_add-header c =
-    record { fits = omega (arith, (table_holds c.begin-checked.ensures c.in-Table.is c.header_of-header.ensures).few) }
+    record { fits = omega (arith, (table_holds c.begin.ensures (c.in_ok-header.was {u = tt})).few) }
 
 pub blank-requires : goal.blank-requires
 blank-requires c =
-    omega (arith, places_left c.begin-checked.ensures c.in-Table.is c.header_of-header.ensures.nodes_is, c.rank_setup-ranked.auto.sheet)
+    omega (arith, places_left c.begin.ensures (c.in_ok-header.was {u = tt}), c.rank_setup-ranked.auto.sheet)
 
 pub returns : goal.returns
 unfolding ranking
 returns c =
-    let B = c.begin-checked.ensures in
-    let q = c.in-Table.is in
-    let h = c.header_of-header.ensures in
+    let B = c.begin.ensures in
+    let q = c.in_ok-header.was {u = tt} in
     let r = c.rank_setup-ranked.ensures in
-    (answered B q h (rank_setup _) _ r.0, blanked B q h.nodes_is _ _ r.1 c.blank.ensures)
+    (answered B q (rank_setup _) _ r.0, blanked B q _ _ r.1 c.blank.ensures)

@@ -29,10 +29,10 @@ pub returns-then-c-r : goal.returns-then-c-r
 returns-then-c-r c =
     (too_high _ _ _ (rw (← counted (goal.at.returns-then-c-r c).After-count_under-c) c.if-c-r.true), filled_past _ _ _ _ c.fill.ensures)
 
-pub descend-x-requires : goal.descend-x-requires
-descend-x-requires c =
-    (opens (goal.at.descend-x-requires c).After-fill, rw (← counted (goal.at.descend-x-requires c).After-count_under-c) c.if-c-r.false)
+pub descend-requires : goal.descend-requires
+descend-requires c =
+    (opens (goal.at.descend-requires c).After-fill, rw (← counted (goal.at.descend-requires c).After-count_under-c) c.if-c-r.false)
 
 pub returns : goal.returns
 returns c =
-    (unranked_to _ _ _ _ c.descend-x.ensures, filled_past _ _ _ _ c.fill.ensures)
+    (unranked_to _ _ _ _ c.descend.ensures, filled_past _ _ _ _ c.fill.ensures)

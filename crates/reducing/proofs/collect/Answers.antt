@@ -1,5 +1,5 @@
 use Prim.Native.Nat.{◌+◌, ◌-◌, ◌*◌, ◌≤◌, ◌<◌}
-use mathlib.Core.Path.{◌≡◌, refl, ◌∙◌}
+use mathlib.Core.Path.{refl, ◌∙◌}
 use mathlib.Core.Logic.{inl, inr}
 use native.Mathlib.Omega.{arith}
 use lib.ListN.{length}
@@ -53,21 +53,3 @@ loop-next-preserved c =
       λ D R. collected_turn D _ _ _ _ _ R _ _ _ (inv.1 D R) c.loop-next-test.true _ e.1 _ c.word_at-next.ensures _ _ e.2
           (elim c.if-renew.branch [ then-renew w ↦ inl (w.if-renew.true, w.end-is) | else-renew w ↦ inr (w.if-renew.false, w.end-is) ]),
     )
-
-pub returns : goal.returns
-returns c =
-    let i = c.loop-next.invariant in
-    let e : c.loop-next.next ≡ 0 = omega (arith, c.loop-next-test.false) in
-    (i.0, rw e at i.1)
-
-pub overflow_mul-p : goal.overflow_mul-p
-overflow_mul-p c = omega (arith, link-room (goal.at.overflow_mul-p c).After-renew)
-
-pub overflow_add-p : goal.overflow_add-p
-overflow_add-p c = omega (arith, link-room (goal.at.overflow_add-p c).After-renew)
-
-pub word_at-next-requires : goal.word_at-next-requires
-word_at-next-requires c = link-room (goal.at.word_at-next-requires c).After-renew
-
-pub shape_of-sheet : goal.shape_of-sheet
-shape_of-sheet c = c.loop-next.invariant.0

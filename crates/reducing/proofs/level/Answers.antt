@@ -65,12 +65,3 @@ returns c =
       λ D R. raised D _ _ _ _ _ _ _ R (search_leaves D _ _ _ _ _ _ _ _ _ R (c.collect-end.ensures.1 D R) (settled c.sort.ensures c.unique-r.ensures)
           c.if-few.false _ (e.1 D (numberable (goal.at.returns c).After-unique-r D R))),
     )
-
-pub collect-end-requires : goal.collect-end-requires
-collect-end-requires c = c.requires
-
-pub shape_of-sheet-then-few : goal.shape_of-sheet-then-few
-shape_of-sheet-then-few c = c.number_carried.ensures.0 ∙ long (goal.at.shape_of-sheet-then-few c).After-sort
-
-pub shape_of-sheet : goal.shape_of-sheet
-shape_of-sheet c = c.number.ensures.0 ∙ long-unique (goal.at.shape_of-sheet c).After-unique-r

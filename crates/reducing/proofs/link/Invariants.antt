@@ -1,5 +1,4 @@
 -- `reducing::link` meets its contract. The loop's invariant: the nodes before i are in their lists (`Linked`). Assumes nothing.
-use Prim.Native.Nat.{◌-◌, ◌≤◌}
 use mathlib.Core.Path.{◌≡◌}
 use lib.ListN.{length}
 use Rattle.words.specs.Words.{word_at}
@@ -9,7 +8,4 @@ use Rattle.reducing.proofs.link.Given as goal
 
 abbrev pub invariant-loop-i : goal.invariant-loop-i
 invariant-loop-i l =
-    (l.i ≤ l.count) × (length l.sheet ≡ length l.initial.sheet) × Linked (height_of (word_at l.initial.sheet) l.p) (word_at l.initial.sheet) (word_at l.sheet) l.heads l.p l.i
-
-abbrev pub decreases-loop-i : goal.decreases-loop-i
-decreases-loop-i l = l.count - l.i
+    (length l.sheet ≡ length l.initial.sheet) × Linked (height_of (word_at l.initial.sheet) l.p) (word_at l.initial.sheet) (word_at l.sheet) l.heads l.p l.i

@@ -57,8 +57,5 @@ returns c =
     let w = c.put_word-3.ensures in (
       long (goal.at.returns c).After-put_word-3,
       renewed c.args.few _ _ _ _ _ _ _ _ _ _ _ p.0 p.1 p.2 (then_is (goal.at.returns c).After-through_of-e) (else_is (goal.at.returns c).After-through_of-e) z u v w (omega arith) (omega arith) fits,
-      renewed_differ c.args.few _ _ _ _ _ _ _ _ _ _ _ p.0 p.1 p.2 (then_is (goal.at.returns c).After-through_of-e) (else_is (goal.at.returns c).After-through_of-e) z u v w (omega arith) (omega arith) fits,
+      c.ne.ensures ∙ renewed_differ c.args.few _ _ _ _ _ _ _ _ _ _ _ p.0 p.1 p.2 (then_is (goal.at.returns c).After-through_of-e) (else_is (goal.at.returns c).After-through_of-e) z u v w (omega arith) (omega arith) fits,
     )
-
-pub shape_of-sheet : goal.shape_of-sheet
-shape_of-sheet c = long (goal.at.shape_of-sheet c).After-put_word-3

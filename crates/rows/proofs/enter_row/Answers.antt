@@ -48,7 +48,7 @@ mix-requires-else-flagged c =
 pub returns-then-flagged : goal.returns-then-flagged
 returns-then-flagged c =
     entered_flagged _ _ _ _ _ _ _ c.requires.0 c.requires.1 c.record_at-record.ensures _ _ _ _ _ _ c.node.ensures c.node-2.ensures c.store.ensures (search rules) (search rules) c.load-first.ensures _ c.flagged.ensures c.if-flagged.true
-    c.wrapping_sub_u64.ensures.value c.mix.ensures
+    (omega (arith, c.wrapping_neg.ensures)) c.mix.ensures
 
 pub returns-else-flagged : goal.returns-else-flagged
 returns-else-flagged c =

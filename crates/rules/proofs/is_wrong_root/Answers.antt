@@ -6,6 +6,6 @@ pub returns-then-loose : goal.returns-then-loose
 unfolding wrong_root
 returns-then-loose c = rw c.if-loose.true
 
-pub returns : goal.returns
+pub returns-else-loose : goal.returns-else-loose
 unfolding wrong_root
-returns c = rw c.if-loose.false
+returns-else-loose c = rw c.if-loose.false

@@ -19,8 +19,8 @@ overflow_add-result c = record { fits = flagged_fits _ _ _ _ 0 c.requires.0 c.re
 pub returns-then-flagged : goal.returns-then-flagged
 returns-then-flagged c = flagged_is _ _ _ _ _ c.requires.0 c.requires.1 c.requires.2 (search rules) _ c.flagged.ensures c.if-flagged.true
 
-pub overflow_add-result-2 : goal.overflow_add-result-2
-overflow_add-result-2 c = record { fits = plain_fits _ _ _ _ 0 c.requires.0 c.requires.1 c.requires.2 (search rules) }
+pub overflow_add-result-else-flagged : goal.overflow_add-result-else-flagged
+overflow_add-result-else-flagged c = record { fits = plain_fits _ _ _ _ 0 c.requires.0 c.requires.1 c.requires.2 (search rules) }
 
-pub returns : goal.returns
-returns c = plain_is _ _ _ _ _ c.requires.0 c.requires.1 c.requires.2 (search rules) _ c.flagged.ensures c.if-flagged.false
+pub returns-else-flagged : goal.returns-else-flagged
+returns-else-flagged c = plain_is _ _ _ _ _ c.requires.0 c.requires.1 c.requires.2 (search rules) _ c.flagged.ensures c.if-flagged.false

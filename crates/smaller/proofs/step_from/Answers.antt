@@ -12,11 +12,11 @@ overflow_sub-h c = let p = c.requires in tall _ _ _ _ _ _ _ p.0 p.1 p.2 c.record
 pub returns-then-y-half : goal.returns-then-y-half
 returns-then-y-half c = let p = c.requires in step_low _ _ _ _ _ _ _ p.0 p.1 p.2 c.record_at-record.ensures c.if-y-half.true
 
-pub count_under-passed-requires : goal.count_under-passed-requires
-count_under-passed-requires c = let p = c.requires in (_, low_opens _ _ _ _ _ _ _ p.0 p.1 p.2 c.record_at-record.ensures)
+pub count_under-requires : goal.count_under-requires
+count_under-requires c = let p = c.requires in (_, low_opens _ _ _ _ _ _ _ p.0 p.1 p.2 c.record_at-record.ensures)
 
-pub returns : goal.returns
-returns c =
+pub returns-else-y-half : goal.returns-else-y-half
+returns-else-y-half c =
     let p = c.requires in
     let r = c.record_at-record.ensures in
-    step_high _ _ _ _ _ _ _ p.0 p.1 p.2 r c.if-y-half.false _ (c.count_under-passed.ensures _ (low_opens _ _ _ _ _ _ _ p.0 p.1 p.2 r))
+    step_high _ _ _ _ _ _ _ p.0 p.1 p.2 r c.if-y-half.false _ (c.count_under.ensures _ (low_opens _ _ _ _ _ _ _ p.0 p.1 p.2 r))

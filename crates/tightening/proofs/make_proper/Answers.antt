@@ -7,49 +7,48 @@ use Rattle.words.specs.Words.{words_over}
 use Rattle.diagram.specs.Ordered.{Accepted}
 use Rattle.diagram.proofs.Accept.{check_accepted}
 use Rattle.loose.proofs.Loosely.{accepted_loosely}
-use Rattle.checking.specs.Answers.{checked_as}
 use Rattle.checking.specs.Operations.{checking_for}
-use Rattle.checking.specs.Inner.{Lends}
+use Rattle.checking.specs.Inner.{header_as, Lends}
 use Rattle.tightening.specs.Operations.{needed}
 use Rattle.tightening.proofs.Promised.{accepted_as, tightens_as, tightened}
 use Rattle.tightening.proofs.Left.{left_promised}
 use Rattle.tightening.proofs.make_proper.Goals as goal
-use Rattle.tightening.proofs.make_proper.Goals.{In-Table}
+use Rattle.tightening.proofs.make_proper.Goals.{In-Ok}
 
 -- a table that passes is accepted, and as much is lent as is needed
-passed : (c : In-Table) → let a = c.args in let s = c.in-Table.shape in
+passed : (c : In-Ok) → let a = c.args in let s = c.in-Ok.header in
     Accepted a.table.now s.settings s.nodes × (needed s.nodes ≤ length a.sheet.now / 8)
 unfolding checking_for
 passed c =
-    check_accepted _ _ needed _ _ (sym c.begin_with-checked.ensures.answers ∙ ap checked_as c.in-Table.is)
+    check_accepted _ _ needed _ _ (sym c.begin_with.ensures.answers ∙ ap header_as c.in-Ok.is)
 
 -- and the sheet is as it was lent
-lent : (c : In-Table) → c.begin_with-checked.new.sheet ≡ c.args.sheet.now
-lent c = subst (Lends _ _ _ _) c.in-Table.is c.begin_with-checked.ensures.lends
+lent : (c : In-Ok) → c.begin_with.new.sheet ≡ c.args.sheet.now
+lent c = (subst (Lends _ _ _ _) c.in-Ok.is c.begin_with.ensures.lends).1
 
 pub blank-requires : goal.blank-requires
-blank-requires c = omega (arith, (passed (goal.at.blank-requires c).In-Table).1, ap length (lent (goal.at.blank-requires c).In-Table))
+blank-requires c = omega (arith, (passed (goal.at.blank-requires c).In-Ok).1, ap length (lent (goal.at.blank-requires c).In-Ok))
 
 pub copy_table-requires : goal.copy_table-requires
 copy_table-requires c =
-    let A = (passed (goal.at.copy_table-requires c).In-Table).0 in
+    let A = (passed (goal.at.copy_table-requires c).In-Ok).0 in
     accepted_as (sym A.has_settings) A
 
-pub returns-in-Table : goal.returns-in-Table
-returns-in-Table c =
-    let p = passed (goal.at.returns-in-Table c).In-Table in
-    let N = c.in-Table.shape.nodes in
+pub returns-in-Ok : goal.returns-in-Ok
+returns-in-Ok c =
+    let p = passed (goal.at.returns-in-Ok c).In-Ok in
+    let N = c.in-Ok.header.nodes in
     tightened _ _ _ _ _ (accepted_loosely _ _ _ p.0) (omega (arith, p.1)) _ _ _ (tightens_as p.0.has_settings c.copy_table.ensures)
-    (c.blank.ensures ∙ ap (words_over (λ _. 0) (8 * N + 512)) (lent (goal.at.returns-in-Table c).In-Table))
+    (c.blank.ensures ∙ ap (words_over (λ _. 0) (8 * N + 512)) (lent (goal.at.returns-in-Ok c).In-Ok))
 
 pub returns : goal.returns
 returns c =
-    let k = c.begin_with-checked.ensures in
+    let k = c.begin_with.ensures in
     let q = c.in_default.is in
-    left_promised _ _ _ _ (sym k.answers ∙ ap checked_as q) _ (subst (Lends _ _ _ _) q k.lends) c.make_loose_proper.ensures
+    left_promised _ _ _ _ (sym k.answers ∙ ap header_as q) _ (subst (Lends _ _ _ _) q k.lends) c.make_loose_proper.ensures
 
-pub overflow_mul-shape : goal.overflow_mul-shape
-overflow_mul-shape c = record { fits = omega (arith, (passed (goal.at.overflow_mul-shape c).In-Table).0.few) }
+pub overflow_mul-header : goal.overflow_mul-header
+overflow_mul-header c = record { fits = omega (arith, (passed (goal.at.overflow_mul-header c).In-Ok).0.few) }
 
-pub overflow_add-shape : goal.overflow_add-shape
-overflow_add-shape c = record { fits = omega (arith, (passed (goal.at.overflow_add-shape c).In-Table).0.few) }
+pub overflow_add-header : goal.overflow_add-header
+overflow_add-header c = record { fits = omega (arith, (passed (goal.at.overflow_add-header c).In-Ok).0.few) }

@@ -8,6 +8,3 @@ use Rattle.lists.proofs.order.check_rising.Given as goal
 
 abbrev pub invariant-loop-i : goal.invariant-loop-i
 invariant-loop-i l = (0 < l.i) × (l.i - 1 ≤ l.m - 1) × (check_rising (word_at l.ranks) l.i ≡ pass)
-
-abbrev pub decreases-loop-i : goal.decreases-loop-i
-decreases-loop-i l = l.m - l.i

@@ -4,7 +4,4 @@ use Rattle.words.specs.Words.{word_at}
 use Rattle.lists.proofs.order.count_below.Given as goal
 
 abbrev pub invariant-loop-i : goal.invariant-loop-i
-invariant-loop-i l = (l.i ≤ l.m) × ((j : ℕ) → l.i ≤ j → j < l.m → l.c ≤ word_at l.ranks j)
-
-abbrev pub decreases-loop-i : goal.decreases-loop-i
-decreases-loop-i l = l.i
+invariant-loop-i l = (j : ℕ) → l.i ≤ j → j < l.m → l.c ≤ word_at l.ranks j

@@ -1,5 +1,5 @@
--- `records::names::all_marked` meets its contract. The loop's invariant: nodes 1 to k have marks, if `all` says so. Assumes nothing.
-use Prim.Native.Nat.{◌-◌, ◌≤◌}
+-- `records::names::all_marked` meets its contract. The loop's invariant: nodes 1 to k - 1 have marks, if `all` says so. Assumes nothing.
+use Prim.Native.Nat.{◌+◌, ◌-◌, ◌≤◌}
 use mathlib.Core.Path.{◌≡◌}
 use mathlib.Core.Bool.{true}
 use Rattle.diagram.specs.Answer.{pass}
@@ -7,7 +7,4 @@ use Rattle.records.specs.Inner.{check_marks}
 use Rattle.records.proofs.names.all_marked.Given as goal
 
 abbrev pub invariant-loop-k : goal.invariant-loop-k
-invariant-loop-k l = (l.k ≤ l.last) × (l.all ≡ true → check_marks l.marks l.k ≡ pass)
-
-abbrev pub decreases-loop-k : goal.decreases-loop-k
-decreases-loop-k l = l.last - l.k
+invariant-loop-k l = (l.k ≤ l.last + 1) × (l.all ≡ true → check_marks l.marks (l.k - 1) ≡ pass)

@@ -1,3 +1,4 @@
+use Prim.Native.Nat.{◌+◌, ◌-◌}
 use mathlib.Core.Path.{◌≡◌, refl, sym, ◌∙◌}
 use native.Mathlib.Omega.{arith}
 use Rattle.diagram.specs.Answer.{each}
@@ -14,13 +15,17 @@ returns-then-all_marked c = sym (c.all_marked.ensures c.if-all_marked.true)
 
 pub returns-then-marks-k-eq0 : goal.returns-then-marks-k-eq0
 returns-then-marks-k-eq0 c =
-    marks_refused _ _ _ c.loop-k-test.true c.loop-k.invariant.1 c.if-marks-k-eq0.true
+    marks_refused _ _ _ (omega arith) (omega arith) c.loop-k.invariant.1 c.if-marks-k-eq0.true
 
 pub loop-k-preserved : goal.loop-k-preserved
-loop-k-preserved c = (omega arith, marks_passed _ _ c.loop-k.invariant.1 c.if-marks-k-eq0.false)
+loop-k-preserved c = (omega arith, marks_passed _ _ (omega arith) c.loop-k.invariant.1 c.if-marks-k-eq0.false)
 
-pub returns : goal.returns
-returns c =
-    let i = c.loop-k in
-    let e : i.k ≡ c.args.last = omega (arith, i.invariant.0) in
-    sym i.invariant.1 ∙ rw e
+pub returns-else-marks-k-eq0 : goal.returns-else-marks-k-eq0
+returns-else-marks-k-eq0 c =
+    let l : c.loop-k.k + 1 - 1 ≡ c.args.last = omega arith in
+    sym (marks_passed _ _ (omega arith) c.loop-k.invariant.1 c.if-marks-k-eq0.false) ∙ rw l
+
+pub returns-else-all_marked : goal.returns-else-all_marked
+returns-else-all_marked c =
+    let l : c.loop-k.k - 1 ≡ c.args.last = omega arith in
+    sym c.loop-k.invariant.1 ∙ rw l

@@ -6,10 +6,10 @@ use lib.ListN.{set, length-set}
 use Rattle.records.proofs.pass.mark_named.Goals as goal
 
 pub returns : goal.returns
-returns c = ap₂ (λ (i j : ℕ). set (set c.args.marks.now i 1) j 1) c.node-a.ensures c.node-b.ensures
+returns c = ap₂ (λ (i j : ℕ). set (set c.args.marks.now i 1) j 1) c.node.ensures c.node-2.ensures
 
-pub bounds-marks-b : goal.bounds-marks-b
-bounds-marks-b c = simp length-set (omega arith)
+pub bounds-marks-node-2 : goal.bounds-marks-node-2
+bounds-marks-node-2 c = simp length-set (omega arith)
 
 pub shape_of-marks : goal.shape_of-marks
 shape_of-marks c = simp length-set

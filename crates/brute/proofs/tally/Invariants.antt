@@ -1,9 +1,0 @@
--- `brute::tally` is safe and ends. The loop's invariant: x is at most the number of setups, and the count at most x. Assumes nothing.
-use Prim.Native.Nat.{◌-◌, ◌≤◌}
-use Rattle.brute.proofs.tally.Given as goal
-
-abbrev pub invariant-loop-x : goal.invariant-loop-x
-invariant-loop-x l = (l.x ≤ l.setups) × (l.permitted ≤ l.x)
-
-abbrev pub decreases-loop-x : goal.decreases-loop-x
-decreases-loop-x l = l.setups - l.x

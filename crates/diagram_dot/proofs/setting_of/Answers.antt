@@ -1,8 +1,0 @@
--- `diagram_dot::setting_of` is safe: a node's height is at most n. Assumes nothing.
-use Rattle.diagram.proofs.Paths.{height_le_settings}
-use Rattle.diagram_dot.proofs.setting_of.Goals as goal
-
-pub overflow_sub-result : goal.overflow_sub-result
-overflow_sub-result c =
-    let p = c.requires in
-    rw c.height_at.ensures.0 (height_le_settings _ _ _ p.0.ordered _ p.2)
