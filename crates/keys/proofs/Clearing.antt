@@ -1,6 +1,6 @@
 -- The slots' bytes are filled with 0: the set is empty. Assumes nothing.
-use Prim.Native.Nat.{ℕ, zero, suc, ◌+◌, ◌-◌, ◌*◌, ◌≤◌, ◌<◌}
-use mathlib.Core.Path.{◌≡◌, refl, ap₂}
+use Prim.Native.Nat.{ℕ, ◌+◌, ◌-◌, ◌*◌, ◌≤◌, ◌<◌}
+use mathlib.Core.Path.{◌≡◌}
 use mathlib.Core.List.{List}
 use native.Mathlib.Omega.{arith}
 use borrow.Author.Rules.{rules}
@@ -8,15 +8,11 @@ use borrow.Rule.Slice.PartMut.{put_mid}
 use lib.ListN.{length, get_or, replicate}
 use Rattle.std.proofs.lemmas.List.{places}
 use Rattle.words.specs.Words.{be_at, word_at}
+use Rattle.words.proofs.Stores.{be_cong}
 use Rattle.keys.specs.Keys.{Cleared}
 use Rattle.keys.proofs.Inserting.{empty_keys}
 
 -- words of equal bytes are equal
-be_cong : (a b : List ℕ) (at i : ℕ) → ((j : ℕ) → at ≤ j → j < at + i → get_or a j 0 ≡ get_or b j 0) → be_at a at i ≡ be_at b at i
-unfolding be_at
-be_cong a b at zero f = refl
-be_cong a b at (suc i) f = ap₂ (λ (x y : ℕ). 256 * x + y) (be_cong a b at i (λ j l m. f j l (omega arith))) (f (at + i) (omega arith) (omega arith))
-
 word_cong : (a b : List ℕ) (k : ℕ) → ((j : ℕ) → 8 * k ≤ j → j < 8 * k + 8 → get_or a j 0 ≡ get_or b j 0) → word_at a k ≡ word_at b k
 unfolding word_at
 word_cong a b k f = be_cong a b (8 * k) 8 f

@@ -30,8 +30,8 @@ pub record Trail (t s : List ℕ) (n root r : ℕ) (edges ends : List ℕ) (h x 
   pub entry : (k : ℕ) → h ≤ k → k ≤ n → r < get_or ends k 0 → Entry t s n root r k (get_or edges k 0) (get_or ends k 0) (x / 2 ^ (k - h))
 
 -- before the first rank, in whichever table root edge `root` has `count` setups over n settings
-abbrev pub Begins : ℕ → ℕ → ℕ → List ℕ → List ℕ → ℕ → Type 0
-Begins n root count edges ends x = (t s : List ℕ) → Opens t s root n → count ≡ count_below (under (word_at t) root) (2 ^ n) → Trail t s n root 0 edges ends 0 x
+abbrev pub AtRoot : ℕ → ℕ → ℕ → List ℕ → List ℕ → ℕ → Type 0
+AtRoot n root count edges ends x = (t s : List ℕ) → Opens t s root n → count ≡ count_below (under (word_at t) root) (2 ^ n) → Trail t s n root 0 edges ends 0 x
 
 -- the way itself, and what is kept of it
 pub record Follows (t s : List ℕ) (n root r : ℕ) (edges ends : List ℕ) (h : ℕ) (way : Way) : Type 0 where

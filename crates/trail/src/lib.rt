@@ -2,7 +2,7 @@
 #![tactic(auto)]
 
 ghost use Rattle.std.specs.Prelude.{◌≡◌, ℕ, ◌+◌, ◌-◌, ◌≤◌, ◌<◌, ◌^◌, get_or, set};
-ghost use Rattle.trail.specs.Inner.{Begins, Ends, Followed, FollowedIn, FollowsOnIn, FollowsTo, Resumed, ResumesTo};
+ghost use Rattle.trail.specs.Inner.{AtRoot, Ends, Followed, FollowedIn, FollowsOnIn, FollowsTo, Resumed, ResumesTo};
 
 use descent::Way;
 use diagram::{Edge, Rank, Setup};
@@ -21,7 +21,7 @@ impl Path {
     // Before the first rank: only the root is reached, n settings are left, and its setups end at `count`.
     pub fn at(n: u64, root: Edge, count: u64) -> Path
         requires { n < 64 }
-        ensures { Begins n root.value count result.edges result.ends result.last.0 }
+        ensures { AtRoot n root.value count result.edges result.ends result.last.0 }
     {
         let mut path = Path {
             last: Setup(0),
