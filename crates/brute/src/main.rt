@@ -4,10 +4,16 @@
 ghost use Rattle.std.specs.Prelude.{◌/◌, ◌≤◌, ◌<◌, length};
 
 use diagram::{Rank, Setup};
-use programs::{A, bytes_of};
-use rules::Refusal;
-use std::io;
 use std::io::Print;
+use std::{array, io};
+
+// Table A.
+const A: [u64; 4] = [
+    0x0C00000060000006,
+    0x0400000000000001,
+    0x0800000040000003,
+    0x0C00000080000000,
+];
 
 // The first three permitted setups of A.
 const FIRST_HALF: [u64; 4] = [
@@ -90,6 +96,17 @@ const RANDOM_6: [u64; 13] = [
     0x1400000240000001,
     0x18000002C0000015,
 ];
+
+// Byte i of a row of words, most significant first; 0 past the end. (By shifts, and not as `programs` has it: this program shares no code with anything.)
+fn byte_of(words: &[u64], i: usize) -> u8 {
+    let word = words.get(i / 8).copied().unwrap_or(0);
+    ((word >> (8 * (7 - i % 8))) % 256) as u8
+}
+
+// The first N bytes of a row of words; zeros past the end.
+fn bytes_of<const N: usize>(words: &[u64]) -> [u8; N] {
+    array::from_fn(|i| byte_of(words, i))
+}
 
 // Word k of a row of bytes, most significant byte first; 0 past the end.
 fn word(bytes: &[u8], k: usize) -> u64 {
@@ -204,7 +221,7 @@ impl<'a> Sample<'a> {
     fn unrank_differs(&self, rank: Rank, x: u64) -> bool {
         let mut sheet = [0; 128];
         match ranking::unrank(self.table, rank, &mut sheet) {
-            Ok(setup) => setup != Setup(x),
+            Ok(setup) => setup.0 != x,
             Err(_) => true,
         }
     }
@@ -214,8 +231,8 @@ impl<'a> Sample<'a> {
         let mut sheet = [0; 128];
         let permitted = permits(self.table, self.root, x);
         match ranking::rank(self.table, Setup(x), &mut sheet) {
-            Ok(rank) => { !permitted || rank != Rank(before) || self.unrank_differs(rank, x) }
-            Err(refusal) => permitted || refusal != Refusal::Unpermitted,
+            Ok(rank) => { !permitted || rank.0 != before || self.unrank_differs(rank, x) }
+            Err(refusal) => permitted || rules::number_of(refusal) != 13,
         }
     }
 

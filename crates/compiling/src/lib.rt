@@ -11,13 +11,15 @@ ghost use Rattle.compiling.specs.Inner.{HoldsDiagram, WritesRoot, HoldsTable};
 use diagram::{Edge, Header};
 use rules::Refusal;
 
-// Copies `count` records, from place 0 of the sheet on, behind the header.
+// Copies `count` records, from place 0 of the sheet on, behind the header. (Word by word: `copy_from_slice` calls `memmove`, which a program that links the archive would have to bring.)
 fn copy_records(sheet: &[u8], out: &mut [u8], count: usize)
     requires { (8 * count ≤ length sheet.now) × (8 * count + 8 ≤ length out.old) }
     ensures { HoldsTable (word_at sheet.now) count (word_at out.old 0) out.new
         × (length out.new ≡ length out.old) }
 {
-    out[8..8 * count + 8].copy_from_slice(&sheet[..8 * count]);
+    for k in 0..count {
+        words::put_word(out, k + 1, words::word_at(sheet, k));
+    }
 }
 
 // Writes the table of `count` records and a root edge.

@@ -68,7 +68,7 @@ fn choose(left: u64, digits: u64, off: u64) -> Choice
 }
 
 // Chooses a setting that no node on the way looks at: half of the setups have it off.
-pub fn cross(way: Way) -> Way
+fn cross(way: Way) -> Way
     requires { way.digits < 2 ^ 63 }
     ensures { Crossed way result }
 {

@@ -23,6 +23,10 @@ pub emit_record : (W : Words) (v z word : ℕ) (out out' : List ℕ) → HasReco
     → out' ≡ put_word out (record_number W v) word → Emitted W out out' v z
 emit_record W v z word out out' O w s q = wrote O (rw (← w) s) (q ∙ ap (put_word out (record_number W v)) w)
 
+-- node v's place holds m: it is left out, and has no new record
+pub emit_none : (W : Words) (v z m : ℕ) (out : List ℕ) → m ≡ W v → m ≡ 0 → Emitted W out out v z
+emit_none W v z m out m-is none = quiet (λ O. omega (arith, O.live)) refl
+
 -- node v, of record z, becomes a word of fields h, t and e
 module _ (map : List ℕ) (v z word flag h t e : ℕ) (N : Readable map v z) (K : IsKey (word_at map) v z word flag) (F : HasFields word h t e) where
   abbrev W : Words

@@ -1,4 +1,4 @@
-// What the programs share: table A, words laid out as bytes, and the reading of a table from standard input.
+// What programs use: table A and words laid out as bytes (`samples`), and the reading of a table from standard input (`setuplist`, `diagram_dot`).
 #![tactic(auto)]
 
 ghost use Rattle.std.specs.Prelude.{◌≡◌, ◌≤◌, ◌<◌, ℕ, length, slice_index, IfOk, OnErr, MatchOption};

@@ -61,7 +61,7 @@ impl Told for Ruling {
 }
 
 // Tells a refusal by its place and the table that it names, or 0: its number is returned.
-fn tell_refusal(refusal: Refusal, table: u64, answer: &mut [u64; 3]) -> u64
+pub fn tell_refusal(refusal: Refusal, table: u64, answer: &mut [u64; 3]) -> u64
     ensures { (result ≡ number_of refusal) × (answer.new ≡ place_of refusal ∷ table ∷ 0 ∷ []) }
 {
     *answer = [rules::place_of(refusal) as u64, table, 0];

@@ -15,12 +15,14 @@ ghost use Rattle.tightening.specs.Inner.{Tightens, Copied};
 use diagram::Edge;
 use rules::Refusal;
 
-// Copies the first m words of a table.
+// Copies the first m words of a table. (Word by word, as `compiling::copy_records` and for the same reason.)
 fn copy_words(table: &[u8], out: &mut [u8], m: usize)
     requires { (8 * m ≤ length table.now) × (8 * m ≤ length out.old) }
     ensures { Copied table.now out.new m × (length out.new ≡ length out.old) }
 {
-    out[..8 * m].copy_from_slice(&table[..8 * m]);
+    for k in 0..m {
+        words::put_word(out, k, words::word_at(table, k));
+    }
 }
 
 // Writes an accepted table of N nodes as it is: rule 11.

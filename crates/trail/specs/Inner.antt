@@ -44,10 +44,6 @@ pub record Follows (t s : List ℕ) (n root r : ℕ) (edges ends : List ℕ) (h 
 abbrev pub Followed : List ℕ → List ℕ → ℕ → List ℕ → List ℕ → ℕ → Way → Type 0
 Followed t s r edges ends h way = (n : ℕ) × (root : ℕ) × Follows t s n root r edges ends h way
 
--- ... in some table
-abbrev pub FollowedIn : ℕ → List ℕ → List ℕ → ℕ → Way → Type 0
-FollowedIn r edges ends h way = (t : List ℕ) × (s : List ℕ) × Followed t s r edges ends h way
-
 -- rank r can be followed from what is kept of the way to the setup `last`
 pub record Resumes (t s : List ℕ) (n root r : ℕ) (edges ends : List ℕ) (last : ℕ) : Type 0 where
   pub trail : Trail t s n root r edges ends 0 last
@@ -64,10 +60,6 @@ pub record Reaches (t s : List ℕ) (n root r : ℕ) (edges ends : List ℕ) (x 
 -- whichever way was followed, it is followed on
 abbrev pub FollowsOn : List ℕ → List ℕ → ℕ → List ℕ → List ℕ → ℕ → Way → List ℕ → List ℕ → ℕ → Way → Type 0
 FollowsOn t s r edges ends h way edges' ends' h' way' = (n root : ℕ) → Follows t s n root r edges ends h way → Follows t s n root r edges' ends' h' way'
-
--- ... in whichever table
-abbrev pub FollowsOnIn : ℕ → List ℕ → List ℕ → ℕ → Way → List ℕ → List ℕ → ℕ → Way → Type 0
-FollowsOnIn r edges ends h way edges' ends' h' way' = (t s : List ℕ) → FollowsOn t s r edges ends h way edges' ends' h' way'
 
 -- ... and to its setup
 abbrev pub FollowsTo : List ℕ → List ℕ → ℕ → List ℕ → List ℕ → ℕ → Way → List ℕ → List ℕ → ℕ → Type 0

@@ -2,7 +2,7 @@
 #![tactic(auto)]
 
 ghost use Rattle.std.specs.Prelude.{◌≡◌, ℕ, ◌+◌, ◌-◌, ◌≤◌, ◌<◌, ◌^◌, get_or, set};
-ghost use Rattle.trail.specs.Inner.{AtRoot, Ends, Followed, FollowedIn, FollowsOnIn, FollowsTo, Resumed, ResumesTo};
+ghost use Rattle.trail.specs.Inner.{AtRoot, Ends, Followed, FollowsOn, FollowsTo, Resumed, ResumesTo};
 
 use descent::Way;
 use diagram::{Edge, Rank, Setup};
@@ -57,14 +57,18 @@ impl Path {
         self.ends[i] = r.0 - way.left + way.count;
     }
 
-    // Chooses the settings above the node reached, at which no node on the way looks.
-    fn cross(&mut self, start: Way, from: u64, r: Rank) -> Way
-        requires { FollowedIn r.0 self.old.edges self.old.ends from start }
-        ensures { FollowsOnIn r.0 self.old.edges self.old.ends from start self.new.edges self.new.ends result.height result × (result.height ≤ from) }
+    // Chooses the settings above the node reached, at which no node on the way looks. (In a loop of its own, which tests the height each time: so the compiler drops what
+    // `advance` does at a node. A `for` over a range would have to know that the height stays, which `advance` does not say.)
+    fn cross(&mut self, table: &[u8], sheet: &[u8], start: Way, from: u64, r: Rank) -> Way
+        requires { Followed table.now sheet.now r.0 self.old.edges self.old.ends from start }
+        ensures { FollowsOn table.now sheet.now r.0 self.old.edges self.old.ends from start
+            self.new.edges self.new.ends result.height result × (result.height ≤ from) }
     {
         let mut way = start;
-        for h in (start.height..from).rev() {
-            way = descent::cross(way);
+        let mut h = from;
+        while way.height < h {
+            way = descent::advance(table, sheet, way, h);
+            h -= 1;
             self.keep(h, way, r);
         }
         way
@@ -76,12 +80,12 @@ impl Path {
         ensures { FollowsTo table.now sheet.now r.0 self.old.edges self.old.ends from start
             self.new.edges self.new.ends result.0 }
     {
-        let mut way = self.cross(start, from, r);
+        let mut way = self.cross(table, sheet, start, from, r);
         while 0 < way.height {
             let h = way.height;
             way = descent::advance(table, sheet, way, h);
             self.keep(h - 1, way, r);
-            way = self.cross(way, h - 1, r);
+            way = self.cross(table, sheet, way, h - 1, r);
         }
         Setup(way.digits)
     }

@@ -4,4 +4,3 @@ pub mod Laws
 pub mod Swaps
 pub mod Bytes
 pub mod Stores
-pub mod Copies

@@ -5,7 +5,7 @@ use Rattle.trail.proofs.Path.follow.Goals.{At-loop-way}
 
 followed : (c : At-loop-way) → let a = c.args in let p = c.requires in
     Follows a.table.now a.sheet.now p.0 p.1 a.r.0 c.loop-way.self.edges c.loop-way.self.ends c.loop-way.way.height c.loop-way.way
-followed c = let p = c.requires in c.loop-way.invariant p.0 p.1 (c.cross-way.ensures.0 _ _ p.0 p.1 p.2)
+followed c = let p = c.requires in c.loop-way.invariant p.0 p.1 (c.cross-way.ensures.0 p.0 p.1 p.2)
 
 pub advance-way-requires : goal.advance-way-requires
 advance-way-requires c =
@@ -20,13 +20,13 @@ keep-requires c =
 pub cross-way-requires-in-loop-way : goal.cross-way-requires-in-loop-way
 cross-way-requires-in-loop-way c =
     let k = c.keep.ensures in
-    (_, _, (_, _, advanced _ _ _ _ _ _ _ _ _ (followed (goal.at.cross-way-requires-in-loop-way c).At-loop-way) c.loop-way-test.true _ c.advance-way.ensures _ _ k.0 k.1))
+    (_, _, advanced _ _ _ _ _ _ _ _ _ (followed (goal.at.cross-way-requires-in-loop-way c).At-loop-way) c.loop-way-test.true _ c.advance-way.ensures _ _ k.0 k.1)
 
 pub loop-way-preserved : goal.loop-way-preserved
 loop-way-preserved c n root F =
     let k = c.keep.ensures in
-    c.cross-way-in-loop-way.ensures.0 _ _ n root (advanced _ _ _ _ _ _ _ _ _ (c.loop-way.invariant n root F) c.loop-way-test.true _ c.advance-way.ensures _ _ k.0 k.1)
+    c.cross-way-in-loop-way.ensures.0 n root (advanced _ _ _ _ _ _ _ _ _ (c.loop-way.invariant n root F) c.loop-way-test.true _ c.advance-way.ensures _ _ k.0 k.1)
 
 pub returns : goal.returns
 returns c n root F =
-    reached _ _ _ _ _ _ _ _ _ (c.loop-way.invariant n root (c.cross-way.ensures.0 _ _ n root F)) c.loop-way-test.false
+    reached _ _ _ _ _ _ _ _ _ (c.loop-way.invariant n root (c.cross-way.ensures.0 n root F)) c.loop-way-test.false
